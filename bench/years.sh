@@ -88,8 +88,8 @@ start=$(over "$most" 0 0)
 tells "a contract, at the start over $most" $((most - 64)) "$few" "$start"
 tells "a command, beside 64 contracts" $((3 * turns)) "$few" "$(over 64 "$turns" 0)"
 tells "a command, beside $most contracts" $((3 * turns)) "$start" "$(over "$most" "$turns" 0)"
-tells "a release and a retirement, of the oldest of them" 500 "$start" "$(over "$most" 500 1)"
-tells "a release and a retirement, in the middle" 500 "$start" "$(over "$most" 500 $((most / 2)))"
+tells "a release and a retirement, of the oldest of them" 10000 "$start" "$(over "$most" 10000 1)"
+tells "a release and a retirement, in the middle" 10000 "$start" "$(over "$most" 10000 $((most / 2)))"
 
 # So many commands: all contracts are reserved, and then the newest one goes and comes again.
 sold() {

@@ -28,7 +28,9 @@ use crate::refusal::BrokerRefusal;
 use crate::shared::SharedTable;
 use ds_certificate::{Bounds, Certificate, bounds_by_route};
 use ds_checker::{Accepted, Candidate, check};
-use ds_domain_base::{Contract, Domain, DomainFault, Field, Kind, Lifetime, Name, Route, Section};
+use ds_domain_base::{
+    BoxedContract, Contract, Domain, DomainFault, Field, Kind, Lifetime, Name, Route, Section,
+};
 use ds_quotes::{count_without, greatest_without, place_of};
 use moment_core::Moment;
 use std::alloc::{AllocError, Global};
@@ -421,7 +423,7 @@ impl Book {
         ensures { (h : Holding) → slice_get (held_of self.now) place ≡ Some h →
             result ≡ (ended moment h.contract).lifetime }
     {
-        ended(self.table().contracts()[place].lifetime, moment)
+        ended(self.table().contracts()[place].contract().lifetime, moment)
     }
 
     /// How much of the hold of the contract at a place is left at a moment, in nanoseconds; 0 where it has passed. The
@@ -433,7 +435,7 @@ impl Book {
         ensures { (h : Holding) → slice_get (held_of self.now) place ≡ Some h →
             result ≡ free_from self.now.domain h.contract - moment }
     {
-        let end = end_of(self.table().contracts()[place].lifetime);
+        let end = end_of(self.table().contracts()[place].contract().lifetime);
         let passed = u128::from(moment.get() - end);
         let hold = self.table().hold(place).unwrap();
         hold.saturating_sub(passed)
@@ -477,7 +479,7 @@ fn end_of(lifetime: Lifetime) -> u64
 }
 
 /// What is told of a contract of an id.
-fn entry_of(id: u32, contract: &Contract) -> Entry
+fn entry_of(id: u32, contract: &BoxedContract) -> Entry
     ensures { result ≡ record {
       id = id;
       name = contract.now.name;
@@ -485,6 +487,7 @@ fn entry_of(id: u32, contract: &Contract) -> Entry
       until = contract.now.lifetime.until;
     } }
 {
+    let contract = contract.contract();
     Entry {
         id,
         name: contract.name,
@@ -494,12 +497,19 @@ fn entry_of(id: u32, contract: &Contract) -> Entry
 }
 
 /// What is told of contracts by their ids, in their order; `AllocError` where memory runs out.
-fn entries(alloc: Global, ids: &[u32], contracts: &[Contract]) -> Result<Vec<Entry>, AllocError>
+fn entries(
+    alloc: Global,
+    ids: &[u32],
+    contracts: &[BoxedContract],
+) -> Result<Vec<Entry>, AllocError>
     ensures { IfOk result (λ entries. entries.items ≡ told_of ids.now contracts.now) }
 {
     let mut entries = Vec::with_capacity(alloc, contracts.len())?;
     for (id, contract) in ids.iter().zip(contracts) {
-        entries.push(entry_of(*id, contract))?;
+        let entry = entry_of(*id, contract);
+        // named, so that the borrow checker knows of the type of a moment
+        let since = entry.since;
+        entries.push(Entry { since, ..entry })?;
     }
     Ok(entries)
 }

@@ -8,7 +8,7 @@ ghost use Rattle.ds_broker.specs.Changes.{Applies, flows_changed, more_by, place
 use crate::entry::Serial;
 use ds_certificate::Bounds;
 use ds_checker::Accepted;
-use ds_domain_base::{Contract, Lifetime, SharedRoute};
+use ds_domain_base::{BoxedContract, Contract, Lifetime, SharedRoute};
 use moment_core::Moment;
 use std::alloc::{AllocError, Global};
 
@@ -133,6 +133,7 @@ fn take_up(
     let Ok(contract) = contract.copy(alloc) else {
         return Err(AllocError);
     };
+    let contract = BoxedContract::new(alloc, contract)?;
     let row = row.copy(alloc)?;
     table.take_up(contract, route.copy()?, row)
 }

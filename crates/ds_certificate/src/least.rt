@@ -13,7 +13,7 @@ use crate::bound::Bound;
 use crate::certificate::{Bounds, Certificate};
 use crate::fault::CertificateFault;
 use crate::source::Source;
-use ds_domain_base::{Contract, Domain, Route};
+use ds_domain_base::{BoxedContract, Contract, Domain, Route};
 use moment_core::{Column, Gap, bytes_over_ceil};
 use std::alloc::{AllocError, Global};
 
@@ -27,7 +27,7 @@ use std::alloc::{AllocError, Global};
 pub fn make(
     alloc: Global,
     domain: &Domain,
-    contracts: &[Contract],
+    contracts: &[BoxedContract],
 ) -> Result<Certificate, CertificateFault>
     ensures value { IfOk result (λ certificate. certificate ≡ least domain.now contracts.now) }
     ensures meets { IfOk result (λ certificate. IsCertificate domain.now contracts.now certificate) }
@@ -40,6 +40,7 @@ pub fn make(
     let mut rows = Vec::new(alloc);
     let mut is_lacking = false;
     for contract in contracts {
+        let contract = contract.contract();
         let route = match domain.route(contract) {
             Ok(route) => route,
             Err(_) => return Err(CertificateFault::Shape),

@@ -4,12 +4,12 @@ ghost use Rattle.ds_certificate.specs.Places.{bounds_said, fault_line, rows_said
 
 use crate::form::Form;
 use crate::reading::{bound_in, next_line};
-use ds_domain_base::Contract;
+use ds_domain_base::{BoxedContract, Contract};
 
 /// The line of a certificate's text, from 1, that is not what its turn wants, the first such; where lines are missing,
 /// that behind the last.
 #[tactic(auto, unfolding(crate::specs::Places::fault_line))]
-pub fn fault_line(text: &[u8], contracts: &[Contract]) -> usize
+pub fn fault_line(text: &[u8], contracts: &[BoxedContract]) -> usize
     ensures { result ≡ fault_line contracts.now text.now }
 {
     let Some((heading, rest)) = next_line(text) else {
@@ -22,13 +22,14 @@ pub fn fault_line(text: &[u8], contracts: &[Contract]) -> usize
 }
 
 /// How many lines, from the first on, say the bounds of contracts in order.
-fn rows_said(form: Form, text: &[u8], contracts: &[Contract]) -> usize
+fn rows_said(form: Form, text: &[u8], contracts: &[BoxedContract]) -> usize
     ensures lines { result ≡ rows_said form contracts.now (lines_of text.now) }
     ensures within { result ≤ length text.now }
 {
     let mut rest = text;
     let mut lines = 0;
     for contract in contracts {
+        let contract = contract.contract();
         let (said, later) = bounds_said(form, rest, contract);
         lines += said;
         if said <= contract.path.hops() {

@@ -14,7 +14,7 @@ use crate::bound::Bound;
 use crate::certificate::{Bounds, Certificate};
 use crate::fault::CertificateFault;
 use crate::form::Form;
-use ds_domain_base::{Contract, Name, is_name};
+use ds_domain_base::{BoxedContract, Contract, Name, is_name};
 use line_text::{cut, number, split_field, three_fields};
 use std::alloc::Global;
 
@@ -32,7 +32,7 @@ const MOST_DIGITS: usize = 20;
 pub fn read(
     alloc: Global,
     text: &[u8],
-    contracts: &[Contract],
+    contracts: &[BoxedContract],
 ) -> Result<Certificate, CertificateFault>
     ensures certificate { IfOk result (λ certificate. certificate_in contracts.now text.now ≡ Ok certificate) }
     ensures shape { IfOk result (λ certificate. IsTrue (is_shaped contracts.now certificate)) }
@@ -56,12 +56,12 @@ pub fn read(
 }
 
 /// What is wrong with the lines behind the heading, if anything is: it takes no memory.
-fn fault_in(form: Form, text: &[u8], contracts: &[Contract]) -> Option<CertificateFault>
+fn fault_in(form: Form, text: &[u8], contracts: &[BoxedContract]) -> Option<CertificateFault>
     ensures { result ≡ result_err (rows_in form contracts.now (lines_of text.now)) }
 {
     let mut rest = text;
     for contract in contracts {
-        match behind_bounds(form, rest, contract) {
+        match behind_bounds(form, rest, contract.contract()) {
             Ok(later) => rest = later,
             Err(fault) => return Some(fault),
         }
@@ -100,7 +100,7 @@ fn rows_in(
     alloc: Global,
     form: Form,
     text: &[u8],
-    contracts: &[Contract],
+    contracts: &[BoxedContract],
 ) -> Result<Certificate, CertificateFault>
     ensures certificate { IfOk result (λ certificate. rows_in form contracts.now (lines_of text.now) ≡ Ok certificate) }
     ensures shape { IfOk result (λ certificate. IsTrue (is_shaped contracts.now certificate)) }
@@ -110,7 +110,7 @@ fn rows_in(
     let mut rows = Vec::with_capacity(alloc, contracts.len())?;
     let mut rest = text;
     for contract in contracts {
-        match bounds_in(alloc, form, rest, contract) {
+        match bounds_in(alloc, form, rest, contract.contract()) {
             Ok((bounds, later)) => {
                 rows.push(bounds)?;
                 rest = later;

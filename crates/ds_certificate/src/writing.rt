@@ -9,7 +9,7 @@ use crate::bound::Bound;
 use crate::certificate::{Bounds, Certificate};
 use crate::fault::CertificateFault;
 use crate::form::Form;
-use ds_domain_base::{Contract, Name};
+use ds_domain_base::{BoxedContract, Contract, Name};
 use line_text::push_number;
 use std::alloc::{AllocError, Global};
 
@@ -22,7 +22,7 @@ use std::alloc::{AllocError, Global};
 pub fn write(
     alloc: Global,
     certificate: &Certificate,
-    contracts: &[Contract],
+    contracts: &[BoxedContract],
 ) -> Result<Vec<u8>, CertificateFault>
     ensures text { IfOk result (λ text. text.items ≡ text_of contracts.now certificate.now) }
     ensures shape { IfOk result (λ _. IsTrue (is_shaped contracts.now certificate.now)) }
@@ -40,17 +40,17 @@ pub fn write(
     text.extend_from_slice(form.heading())?;
     text.push(b'\n')?;
     for (contract, bounds) in contracts.iter().zip(certificate.bounds()) {
-        push_bounds(&mut text, form, contract.name, bounds)?;
+        push_bounds(&mut text, form, contract.contract().name, bounds)?;
     }
     Ok(text)
 }
 
 /// Whether there are bounds for each contract, one more than its path has meters.
-fn is_shaped(contracts: &[Contract], rows: &[Bounds]) -> bool
+fn is_shaped(contracts: &[BoxedContract], rows: &[Bounds]) -> bool
     ensures { result ≡ is_shaped contracts.now rows.now }
 {
     for (contract, bounds) in contracts.iter().zip(rows) {
-        if !is_long(bounds, contract) {
+        if !is_long(bounds, contract.contract()) {
             return false;
         }
     }

@@ -68,6 +68,7 @@ pub(crate) fn bounded(alloc: Global, candidate: &Candidate) -> Result<Vec<Shared
     let mut is_lacking = false;
     let mut low = None;
     for (number, contract) in contracts.iter().enumerate() {
+        let contract = contract.contract();
         let Some(bounds) = rows.get(number) else {
             return Err(Refusal::Shape { contract: number });
         };

@@ -139,7 +139,7 @@ fn brought_by(accepted: &Accepted, place: usize) -> Brought<'_>
     let domain = accepted.domain();
     let _meters = domain.meters();
     let _sums = accepted.sums();
-    let contract = &accepted.contracts()[place];
+    let contract = accepted.contracts()[place].contract();
     let route = accepted.route(place);
     let bounds = &accepted.certificate().bounds()[place];
     let (_, behind) = bounds.hops().split_at(1);

@@ -17,7 +17,7 @@ use crate::load::Loads;
 use crate::refusal::Refusal;
 use crate::routed::{add_on_route, hold_on_route, take_on_route};
 use ds_certificate::{Bound, Bounds, Certificate};
-use ds_domain_base::{Contract, Domain, Lifetime, Name, Route, SharedRoute, Terms};
+use ds_domain_base::{BoxedContract, Contract, Domain, Lifetime, Name, Route, SharedRoute, Terms};
 use std::alloc::{AllocError, Global};
 use std::marker::Model;
 use std::sync::Arc;
@@ -28,7 +28,7 @@ pub struct Candidate {
     /// The domain.
     pub domain: Domain,
     /// The contracts.
-    pub contracts: Vec<Contract>,
+    pub contracts: Vec<BoxedContract>,
     /// What is said of their bursts.
     pub certificate: Certificate,
 }
@@ -44,7 +44,7 @@ const FEW: usize = 16;
 #[derive(Debug, Drop)]
 pub struct Accepted {
     domain: Arc<Domain, Global>,
-    contracts: Vec<Contract>,
+    contracts: Vec<BoxedContract>,
     certificate: Certificate,
     /// The route of each contract, in the order of the contracts.
     routes: Vec<SharedRoute>,
@@ -115,7 +115,7 @@ impl Accepted {
     }
 
     /// The contracts.
-    pub fn contracts(&self) -> &[Contract]
+    pub fn contracts(&self) -> &[BoxedContract]
         ensures value { result.now ≡ self.now.contracts }
         ensures acceptable { IsAcceptable self.now }
     {
@@ -167,7 +167,7 @@ impl Accepted {
         let route = self.routes.as_slice().get(index)?;
         let domain: &Domain = &self.domain;
         let route = route.route();
-        Some(hold_on_route(domain, contract, route, bounds.hops()))
+        Some(hold_on_route(domain, contract.contract(), route, bounds.hops()))
     }
 
     /// What the contracts take at the meter of a name and what it has, for each test of `check` in their order: read from
@@ -198,7 +198,7 @@ impl Accepted {
     /// nothing stands against the table with it; `AllocError` where memory runs out, and then it is as it was.
     pub fn take_up(
         &mut self,
-        contract: Contract,
+        contract: BoxedContract,
         route: SharedRoute,
         row: Bounds,
     ) -> Result<(), AllocError>
@@ -221,7 +221,7 @@ impl Accepted {
         add_on_route(
             self.sums.as_mut_slice(),
             domain,
-            &contract,
+            contract.contract(),
             route.route(),
             row.hops(),
         );
@@ -281,12 +281,12 @@ impl Accepted {
         take_on_route(
             self.sums.as_mut_slice(),
             domain,
-            &contract,
+            contract.contract(),
             route.route(),
             bounds.hops(),
         );
         let _acceptable = self.contracts();
-        (contract, bounds)
+        (contract.into_contract(), bounds)
     }
 
     /// The table without the contract at a place, as `withdraw` makes it of a copy; `AllocError` where memory runs out.
@@ -306,7 +306,7 @@ impl Accepted {
         ensures set { self.new ≡ with_lifetime self.old index lifetime }
         ensures acceptable { IsAcceptable self.new }
     {
-        self.contracts[index].lifetime = lifetime;
+        self.contracts[index].set_lifetime(lifetime);
         let _acceptable = self.contracts();
     }
 
@@ -366,6 +366,7 @@ impl Accepted {
         let Ok(contract) = contract.copy(alloc) else {
             return Err(AllocError);
         };
+        let contract = BoxedContract::new(alloc, contract)?;
         let route = SharedRoute::new(alloc, route)?;
         let row = Bounds::new(alloc, bounds.to_vec(alloc)?)?;
         larger.take_up(contract, route, row)?;
@@ -374,7 +375,7 @@ impl Accepted {
 }
 
 /// The same contracts again.
-fn copied(alloc: Global, contracts: &[Contract]) -> Result<Vec<Contract>, AllocError>
+fn copied(alloc: Global, contracts: &[BoxedContract]) -> Result<Vec<BoxedContract>, AllocError>
     ensures { IfOk result (λ copied. copied.items ≡ contracts.now) }
 {
     let mut copied = Vec::with_capacity(alloc, contracts.len())?;

@@ -49,7 +49,7 @@ pub(crate) fn gathered(
         add_on_route(
             sums.as_mut_slice(),
             domain,
-            contract,
+            contract.contract(),
             routes[number].route(),
             rows[number].hops(),
         );

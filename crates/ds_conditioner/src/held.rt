@@ -3,7 +3,7 @@ ghost use Rattle.ds_conditioner.specs.Helds.{CanBeNoted, IsFirst, IsFirstFrame, 
 ghost use Rattle.ds_conditioner.specs.Helds.{IsNoted};
 ghost use Rattle.ds_conditioner.specs.Stretches.{IsBegun};
 
-use crate::held_piece::HeldPiece;
+use crate::held_piece::{HeldPiece, Note};
 use crate::seen::SeenFrame;
 use crate::stretch::Stretch;
 use ds_conductor_base::Sent;
@@ -27,6 +27,8 @@ pub struct HeldFrames {
     last: HeldPiece,
     /// The last piece that was let go, if it can be used again.
     spare: Option<Piece>,
+    /// Room for notes that can be used again.
+    room: Vec<Note>,
 }
 
 impl Model for HeldFrames {
@@ -56,6 +58,7 @@ impl HeldFrames {
             between: VecDeque::new(alloc),
             last: HeldPiece::nothing(alloc),
             spare: None,
+            room: Vec::new(alloc),
         }
     }
 
@@ -67,10 +70,11 @@ impl HeldFrames {
         ensures unchanged { OnErr result (self.new ≡ self.old) }
     {
         self.between.reserve(1)?;
-        let next = HeldPiece::new(self.alloc, piece)?;
+        let room = replace(&mut self.room, Vec::new(self.alloc));
+        let next = HeldPiece::new(self.alloc, piece, room)?;
         let before = replace(&mut self.last, next);
         if before.is_empty() {
-            keep_spent(&mut self.spare, before);
+            keep_spent(&mut self.spare, &mut self.room, before);
             return Ok(());
         }
         if self.first.is_empty() {
@@ -166,7 +170,8 @@ impl HeldFrames {
                 .between
                 .pop_front()
                 .unwrap_or(HeldPiece::nothing(self.alloc));
-            keep_spent(&mut self.spare, replace(&mut self.first, next));
+            let gone = replace(&mut self.first, next);
+            keep_spent(&mut self.spare, &mut self.room, gone);
         }
     }
 
@@ -181,9 +186,13 @@ impl HeldFrames {
     }
 }
 
-/// Keeps a piece that is let go, if nobody else holds it.
-fn keep_spent(spare: &mut Option<Piece>, held: HeldPiece) {
-    if let Some(piece) = held.into_piece() {
+/// Keeps a piece that is let go, if nobody else holds it, and its room for notes.
+fn keep_spent(spare: &mut Option<Piece>, room: &mut Vec<Note>, held: HeldPiece) {
+    let (piece, notes) = held.parts();
+    if notes.capacity() > room.capacity() {
+        *room = notes;
+    }
+    if let Some(piece) = piece {
         *spare = Some(piece);
     }
 }

@@ -1,4 +1,5 @@
-ghost use Rattle.std.specs.Prelude.{◌≡◌, ◌==◌, ◌<◌, [], length, IfOk};
+ghost use Rattle.std.specs.Prelude.{◌≡◌, ◌==◌, ◌<◌, ◌≤◌, [], length, IfOk};
+ghost use Rattle.std.specs.Vec.{vec_capacity};
 ghost use Rattle.std.specs.List.{slice_index_or};
 ghost use Rattle.ds_conditioner.specs.Helds.{CanBeNoted, IsFirst, IsFirstFrame, IsFirstMark, IsFirstPacket, IsLetGo};
 ghost use Rattle.ds_conditioner.specs.Helds.{IsNoted};
@@ -66,11 +67,12 @@ impl HeldPiece {
         }
     }
 
-    /// A piece of which no frame is noted yet; `AllocError` where there is no memory for the notes of all its frames.
-    pub(crate) fn new(alloc: Global, mut piece: Piece) -> Result<Self, AllocError>
+    /// A piece of which no frame is noted yet, with room for notes that is used again, unless it has far too much.
+    /// `AllocError` where there is no memory for the notes of all its frames.
+    pub(crate) fn new(alloc: Global, mut piece: Piece, room: Vec<Note>) -> Result<Self, AllocError>
         ensures { IfOk result (λ h. h ≡ record { held = []; ahead = piece }) }
     {
-        let notes = Vec::with_capacity(alloc, piece.len())?;
+        let notes = room_for(alloc, room, piece.len())?;
         if piece.text().len() < SHORT {
             piece.fit();
         }
@@ -147,10 +149,13 @@ impl HeldPiece {
         }
     }
 
-    /// The piece itself, if nobody else holds it.
-    pub(crate) fn into_piece(self) -> Option<Piece> {
-        let HeldPiece { piece, .. } = self;
-        Arc::into_inner(piece?)
+    /// The piece itself, if nobody else holds it, and its room for notes.
+    pub(crate) fn parts(self) -> (Option<Piece>, Vec<Note>) {
+        let HeldPiece { piece, notes, .. } = self;
+        match piece {
+            Some(piece) => (Arc::into_inner(piece), notes),
+            None => (None, notes),
+        }
     }
 
     /// Lets the first frame go that is held.
@@ -161,6 +166,19 @@ impl HeldPiece {
     {
         self.next += 1;
     }
+}
+
+/// Room for so many notes, of which there are none yet: this one, unless it is far too large. `AllocError` where memory
+/// runs out.
+fn room_for(alloc: Global, mut room: Vec<Note>, count: usize) -> Result<Vec<Note>, AllocError>
+    ensures { IfOk result (λ notes. (notes.items ≡ []) × (count ≤ vec_capacity notes)) }
+{
+    if room.capacity() / 2 > count {
+        return Vec::with_capacity(alloc, count);
+    }
+    room.clear();
+    room.reserve(count)?;
+    Ok(room)
 }
 
 /// What is noted of a frame. It is put together part by part: a processor waits where a struct is copied whole of which

@@ -237,7 +237,7 @@ pub fn head_start(accepted: &Accepted, port: Name) -> Gap
     let mut least = furthest();
     for (place, contract) in contracts.iter().enumerate() {
         let route = accepted.route(place);
-        least = lesser(least, delay_at(port, contract, route));
+        least = lesser(least, delay_at(port, contract.contract(), route));
     }
     least
 }

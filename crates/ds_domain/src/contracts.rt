@@ -12,8 +12,8 @@ use crate::contract_keys::{ContractRest, contract_keys};
 use crate::place::Place;
 use crate::sections::Entries;
 use ds_domain_base::{
-    Contract, Domain, DomainFault, Field, Kind, Lifetime, MOST_HOPS, Name, Path, Section, Terms,
-    fits,
+    BoxedContract, Contract, Domain, DomainFault, Field, Kind, Lifetime, MOST_HOPS, Name, Path,
+    Section, Terms, fits,
 };
 use ds_offers::Offers;
 use std::alloc::Global;
@@ -208,7 +208,7 @@ impl Entries for Contracts<'_> {
     #[tactic(auto, unfolding(crate::specs::ContractEntries::with_contract_of))]
     fn add(&self, done: &mut Offers, table: &Table) -> Result<(), DomainFault> {
         let contract = contract_in(self.alloc, self.domain, done, table)?;
-        done.push(contract)?;
+        done.push(BoxedContract::new(self.alloc, contract)?)?;
         Ok(())
     }
 }
@@ -218,7 +218,7 @@ pub(crate) fn contracts_of(
     alloc: Global,
     domain: &Domain,
     tables: &[&Table],
-) -> Result<Vec<Contract>, DomainFault>
+) -> Result<Vec<BoxedContract>, DomainFault>
     ensures ok { IfOk result (λ contracts. section_in Field.Contract 4096 (with_contract_of domain.now) []
         (map (λ table. table_view table.now) tables.now) ≡ Ok contracts.items) }
     ensures refused { IfErr result (λ fault. (fault ≡ no_memory)

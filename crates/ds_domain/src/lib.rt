@@ -15,8 +15,8 @@ mod sections;
 mod terms;
 
 pub use ds_domain_base::{
-    Contract, Delay, Domain, DomainFault, Field, Kind, Lifetime, Link, MOST_HOPS, Meter, Name,
-    Path, Peak, Port, Profile, Section, SoundParameters, Terms, Version, fits,
+    BoxedContract, Contract, Delay, Domain, DomainFault, Field, Kind, Lifetime, Link, MOST_HOPS,
+    Meter, Name, Path, Peak, Port, Profile, Section, SoundParameters, Terms, Version, fits,
 };
 pub use ds_offers::Offers;
 pub use offering::read_contract;

@@ -5,7 +5,7 @@ ghost use Rattle.ds_domain_base.specs.Faults.{no_memory};
 ghost use Rattle.ds_domain.specs.OfferedTexts.{contract_said, contract_told};
 
 use crate::contracts::contract_in;
-use crate::parsing::no_text;
+use crate::parsing::{no_text, unread};
 use crate::sections::top;
 use ds_domain_base::{Contract, Domain, DomainFault, Field, Kind};
 use ds_offers::Offers;
@@ -35,8 +35,7 @@ pub fn read_contract(
     };
     match Value::from_str(alloc, text) {
         Ok(value) => told(alloc, domain, offers, &value),
-        Err(error) if error.is_memory() => Err(DomainFault::no_memory()),
-        Err(_) => Err(no_text()),
+        Err(error) => Err(unread(&error)),
     }
 }
 

@@ -1,5 +1,6 @@
 ghost use Rattle.std.specs.Prelude.{◌≡◌, ◌⊎◌, map, Err, IfErr, IfOk, Ok, OnOk};
 ghost use Rattle.std.specs.Str.{IsUtf8};
+ghost use Rattle.toml.specs.Errors.{IsMemory};
 ghost use Rattle.toml.specs.View.{table_view};
 ghost use Rattle.ds_domain_base.specs.Faults.{no_memory};
 ghost use Rattle.ds_domain.specs.DomainTexts.{document_of, domain_of, no_text, parse_of, parts_of, with_parts_of};
@@ -10,10 +11,11 @@ use crate::contracts::contracts_of;
 use crate::keys::{only, optional_number_at};
 use crate::parts::{Links, Meters, Ports};
 use crate::sections::{Entries, top};
-use ds_domain_base::{Contract, Domain, DomainFault, Field, Kind, Section, Version};
+use ds_domain_base::{BoxedContract, Domain, DomainFault, Field, Kind, Section, Version};
 use ds_domain_text::keys::tables_at;
 use std::alloc::Global;
 use toml::Table;
+use toml::de::Error;
 
 /// The keys at the top.
 const TOP_FIELDS: [Field; 5] = [
@@ -44,7 +46,7 @@ pub(crate) struct Sections<'a> {
 /// whole, then its top, then the meters, ports, links and contracts, each in the order of the text. `NoMemory` where
 /// memory runs out.
 #[tactic(auto, unfolding(crate::specs::DomainTexts::parse_of))]
-pub fn parse(alloc: Global, bytes: &[u8]) -> Result<(Domain, Vec<Contract>), DomainFault>
+pub fn parse(alloc: Global, bytes: &[u8]) -> Result<(Domain, Vec<BoxedContract>), DomainFault>
     ensures ok { IfOk result (λ parsed. parse_of bytes.now ≡ Ok (parsed.0, parsed.1.items)) }
     // Bytes that are no text are told without memory.
     ensures refused { IfErr result (λ fault. ((fault ≡ no_memory) × IsUtf8 bytes.now)
@@ -55,8 +57,19 @@ pub fn parse(alloc: Global, bytes: &[u8]) -> Result<(Domain, Vec<Contract>), Dom
     };
     match toml::table_from_str(alloc, text) {
         Ok(table) => document_of(alloc, &table),
-        Err(error) if error.is_memory() => Err(DomainFault::no_memory()),
-        Err(_) => Err(no_text()),
+        Err(error) => Err(unread(&error)),
+    }
+}
+
+/// The fault of a text that its parser did not read: want of memory where the parser says that of itself, else that it
+/// is not TOML.
+pub(crate) fn unread(error: &Error) -> DomainFault
+    ensures { (IsMemory error.now × (result ≡ no_memory)) ⊎ ((¬ IsMemory error.now) × (result ≡ no_text)) }
+{
+    if error.is_memory() {
+        DomainFault::no_memory()
+    } else {
+        no_text()
     }
 }
 
@@ -69,7 +82,7 @@ pub(crate) fn no_text() -> DomainFault
 
 /// The domain and the contracts of a document.
 #[tactic(auto, unfolding(crate::specs::DomainTexts::document_of))]
-fn document_of(alloc: Global, table: &Table) -> Result<(Domain, Vec<Contract>), DomainFault>
+fn document_of(alloc: Global, table: &Table) -> Result<(Domain, Vec<BoxedContract>), DomainFault>
     ensures ok { IfOk result (λ parsed. document_of (table_view table.now) ≡ Ok (parsed.0, parsed.1.items)) }
     ensures refused { IfErr result (λ fault. (fault ≡ no_memory) ⊎ (document_of (table_view table.now) ≡ Err fault)) }
 {
@@ -84,7 +97,7 @@ fn parts_of(
     alloc: Global,
     version: Version,
     sections: &Sections<'_>,
-) -> Result<(Domain, Vec<Contract>), DomainFault>
+) -> Result<(Domain, Vec<BoxedContract>), DomainFault>
     ensures ok { IfOk result (λ parsed. parts_of version (tables_of sections.now) ≡ Ok (parsed.0, parsed.1.items)) }
     ensures refused { IfErr result (λ fault. (fault ≡ no_memory)
         ⊎ (parts_of version (tables_of sections.now) ≡ Err fault)) }

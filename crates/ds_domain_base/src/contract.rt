@@ -11,7 +11,8 @@ use af_marker::{Class, Dscp, colour_of};
 use flow_classifier::Rule;
 use meter_book_base::AnyMeter;
 use moment_core::Colour;
-use std::alloc::Global;
+use std::alloc::{AllocError, Global};
+use std::marker::Model;
 
 /// A contract: whose traffic, on which way through a domain, and what it is trusted with or held to.
 #[derive(Debug, Drop)]
@@ -67,5 +68,69 @@ impl Contract {
             lifetime: self.lifetime,
             rule: self.rule,
         })
+    }
+}
+
+/// A contract behind its owner, which is a pointer: a list of these moves little.
+#[derive(Debug, Drop)]
+pub struct BoxedContract {
+    contract: Box<Contract>,
+}
+
+impl Model for BoxedContract {
+    ghost use Rattle.ds_domain_base.specs.declared.contract.Contract as contracts;
+
+    ghost Value = { contracts.Contract };
+
+    ghost view = { λ b. b.contract.value };
+}
+
+impl BoxedContract {
+    /// The contract, behind an owner; `AllocError` where memory runs out.
+    pub fn new(alloc: Global, contract: Contract) -> Result<Self, AllocError>
+        ensures { IfOk result (λ boxed. boxed ≡ contract) }
+    {
+        match Box::new(alloc, contract) {
+            Ok(contract) => Ok(BoxedContract { contract }),
+            Err(_) => Err(AllocError),
+        }
+    }
+
+    /// The contract.
+    pub fn contract(&self) -> &Contract
+        ensures { result.now ≡ self.now }
+    {
+        &self.contract
+    }
+
+    /// The contract, without its owner.
+    pub fn into_contract(self) -> Contract
+        ensures { result ≡ self }
+    {
+        let BoxedContract { contract } = self;
+        Box::into_inner(contract)
+    }
+
+    /// The same contract again, behind an owner of its own; `NoMemory` where memory runs out.
+    pub fn copy(&self, alloc: Global) -> Result<BoxedContract, DomainFault>
+        ensures copied { IfOk result (λ boxed. boxed ≡ self.now) }
+        ensures refused { IfErr result (λ fault. fault ≡ no_memory) }
+    {
+        let contract = self.contract.copy(alloc)?;
+        Ok(BoxedContract::new(alloc, contract)?)
+    }
+
+    /// Gives the contract another lifetime. It takes no memory.
+    pub fn set_lifetime(&mut self, lifetime: Lifetime)
+        ensures { self.new ≡ record self.old { lifetime = lifetime } }
+    {
+        self.contract.lifetime = lifetime;
+    }
+
+    /// Gives the contract other terms. It takes no memory.
+    pub fn set_terms(&mut self, terms: Terms)
+        ensures { self.new ≡ record self.old { terms = terms } }
+    {
+        self.contract.terms = terms;
     }
 }

@@ -13,7 +13,7 @@ pub mod quantity;
 pub mod route;
 pub mod terms;
 
-pub use contract::Contract;
+pub use contract::{BoxedContract, Contract};
 pub use domain::Domain;
 pub use fault::{DomainFault, Field, Kind, Section};
 pub use fit::{MOST_HOPS, fits};

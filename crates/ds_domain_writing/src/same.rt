@@ -1,7 +1,7 @@
 //! Whether two values are one and the same.
 ghost use Rattle.std.specs.Prelude.{◌≡◌, ◌↔◌, IsTrue};
 
-use ds_domain_base::{Contract, Domain, Link, Meter, Name, Path, Port};
+use ds_domain_base::{BoxedContract, Contract, Domain, Link, Meter, Name, Path, Port};
 use flow_classifier::Rule;
 use indexmap::IndexMap;
 use std::hash::Hash;
@@ -52,6 +52,12 @@ impl Same for Contract {
             return false;
         }
         is_same_rule(&self.rule, &other.rule)
+    }
+}
+
+impl Same for BoxedContract {
+    fn is_same(&self, other: &Self) -> bool {
+        self.contract().is_same(other.contract())
     }
 }
 

@@ -5,20 +5,22 @@ use crate::lines::{
 };
 use crate::rules::push_rule;
 use crate::terms::{kind_of, kind_under, push_parameters, push_terms};
-use ds_domain_base::{Contract, Domain, Field, Lifetime, Link, Meter, Name, Port, Version};
+use ds_domain_base::{
+    BoxedContract, Contract, Domain, Field, Lifetime, Link, Meter, Name, Port, Version,
+};
 use std::alloc::{AllocError, Global};
 
 /// The text of a domain and of contracts: the version, and then the meters, ports, links and contracts in their order.
 pub(crate) fn text_of(
     alloc: Global,
     domain: &Domain,
-    contracts: &[Contract],
+    contracts: &[BoxedContract],
 ) -> Result<Vec<u8>, AllocError> {
     let mut text = Vec::new(alloc);
     push_line(&mut text, Field::Version, version_number(domain.version()))?;
     push_parts(&mut text, domain)?;
     for contract in contracts {
-        push_contract(alloc, &mut text, contract)?;
+        push_contract(alloc, &mut text, contract.contract())?;
     }
     Ok(text)
 }

@@ -4,7 +4,7 @@ ghost use Rattle.ds_domain_base.specs.Faults.{fault_at};
 
 use crate::same::{are_same, is_same_domain};
 use crate::text::text_of;
-use ds_domain::{Contract, Domain, DomainFault, Field, Kind, Section, parse};
+use ds_domain::{BoxedContract, Domain, DomainFault, Field, Kind, Section, parse};
 use std::alloc::Global;
 
 /// The greatest number of contracts of a domain text.
@@ -16,7 +16,11 @@ const MOST_CONTRACTS: usize = 4096;
 /// Refused with the fault that the text has: `Range` at `contract` where there are more than 4,096, then the first that
 /// `parse` finds, as of a contract with a part that the domain's version does not have; `Text` where it says something
 /// else; `NoMemory` where memory runs out.
-pub fn write(alloc: Global, domain: &Domain, contracts: &[Contract]) -> Result<Vec<u8>, DomainFault>
+pub fn write(
+    alloc: Global,
+    domain: &Domain,
+    contracts: &[BoxedContract],
+) -> Result<Vec<u8>, DomainFault>
     ensures reads { IfOk result (λ text. parse_of text.items ≡ Ok (domain.now, contracts.now)) }
     ensures many { nat_lt 4096 (length contracts.now) ≡ true →
         result ≡ Err (fault_at Kind.Range Section.Top 0 Field.Contract) }

@@ -8,7 +8,7 @@ ghost use Rattle.ds_export.specs.Remade.{with_parameters};
 use crate::remaking::remade;
 use ds_certificate::{Certificate, CertificateFault, make};
 use ds_checker::{Accepted, Candidate, Refusal, check};
-use ds_domain_base::{Contract, Domain, Name, SoundParameters};
+use ds_domain_base::{BoxedContract, Domain, Name, SoundParameters};
 use std::alloc::{AllocError, Global};
 
 /// The table of contracts that fit a domain, with their least certificate, where the meter of a name has other
@@ -16,10 +16,10 @@ use std::alloc::{AllocError, Global};
 pub fn check_with(
     alloc: Global,
     domain: &Domain,
-    contracts: Vec<Contract>,
+    contracts: Vec<BoxedContract>,
     name: Name,
     parameters: SoundParameters,
-) -> Result<Accepted, Option<(Vec<Contract>, Refusal)>>
+) -> Result<Accepted, Option<(Vec<BoxedContract>, Refusal)>>
     requires { list_all (fits domain.now) contracts.items ≡ true }
     ensures accepted { IfOk result (λ accepted.
         accepted ≡ with_least (with_parameters domain.now name parameters) contracts.items) }
@@ -48,7 +48,7 @@ pub fn check_with(
 fn least_certificate(
     alloc: Global,
     domain: &Domain,
-    contracts: &[Contract],
+    contracts: &[BoxedContract],
 ) -> Result<Certificate, AllocError>
     requires { list_all (fits domain.now) contracts.now ≡ true }
     ensures { IfOk result (λ certificate. certificate ≡ least domain.now contracts.now) }
@@ -61,7 +61,10 @@ fn least_certificate(
 }
 
 /// What the checker makes of a candidate; nothing where memory runs out.
-fn judged(alloc: Global, candidate: Candidate) -> Result<Accepted, Option<(Vec<Contract>, Refusal)>>
+fn judged(
+    alloc: Global,
+    candidate: Candidate,
+) -> Result<Accepted, Option<(Vec<BoxedContract>, Refusal)>>
     ensures accepted { IfOk result (λ accepted. accepted ≡ table_of candidate) }
     ensures unrefused { OnOk result (refusal_of (table_of candidate) ≡ None) }
     ensures refused { IfErr result (λ back. IfSome back (λ back. (back.0.items ≡ candidate.contracts.items)

@@ -3,7 +3,7 @@ ghost use Rattle.std.specs.Str.{bytes_eq};
 ghost use Rattle.ds_offers.specs.Offered.{has_name};
 
 use crate::named::named;
-use ds_domain_base::{Contract, Name};
+use ds_domain_base::{BoxedContract, Name};
 use indexmap::IndexMap;
 use std::alloc::{AllocError, Global};
 use std::marker::Model;
@@ -11,7 +11,7 @@ use std::marker::Model;
 /// The contracts that are offered, in order. They are looked up by name without a scan.
 #[derive(Drop)]
 pub struct Offers {
-    contracts: Vec<Contract>,
+    contracts: Vec<BoxedContract>,
     /// Under each name the place of the first contract that has it.
     places: IndexMap<Name, usize>,
 }
@@ -40,7 +40,7 @@ impl Offers {
     }
 
     /// Contracts in their order; `AllocError` where memory runs out.
-    pub fn of(alloc: Global, contracts: Vec<Contract>) -> Result<Self, AllocError>
+    pub fn of(alloc: Global, contracts: Vec<BoxedContract>) -> Result<Self, AllocError>
         ensures { IfOk result (λ offers. offers ≡ contracts.items) }
     {
         let mut offers = Offers::new(alloc);
@@ -74,12 +74,12 @@ impl Offers {
     }
 
     /// Adds a contract behind the others. Where memory runs out nothing changes.
-    pub fn push(&mut self, contract: Contract) -> Result<(), AllocError>
+    pub fn push(&mut self, contract: BoxedContract) -> Result<(), AllocError>
         ensures added { OnOk result (self.new ≡ self.old ++ contract ∷ []) }
         ensures unchanged { OnErr result (self.new ≡ self.old) }
     {
         let place = self.contracts.len();
-        let name = contract.name;
+        let name = contract.contract().name;
         let _named = name.bytes();
         self.contracts.reserve(1)?;
         if !self.places.contains_key(&name) {
@@ -90,14 +90,14 @@ impl Offers {
     }
 
     /// The contracts, in order.
-    pub fn contracts(&self) -> &[Contract]
+    pub fn contracts(&self) -> &[BoxedContract]
         ensures { result.now ≡ self.now }
     {
         self.contracts.as_slice()
     }
 
     /// The contracts, in order.
-    pub fn into_contracts(self) -> Vec<Contract>
+    pub fn into_contracts(self) -> Vec<BoxedContract>
         ensures { result.items ≡ self }
     {
         let Offers {

@@ -8,7 +8,7 @@ ghost use Rattle.ds_quotes.specs.Quotes.{IsGreatest, IsSaleable, least_refusal, 
 use crate::field::Field;
 use crate::passing::{Trial, passing_below};
 use ds_checker::{Accepted, Beside, Refusal};
-use ds_domain_base::{Contract, Name};
+use ds_domain_base::{BoxedContract, Contract, Name};
 
 /// A contract beside a table, and one of its fields, whose values are tried from a least one on.
 #[derive(Drop)]
@@ -189,8 +189,10 @@ fn number_without(accepted: &Accepted, left_out: Option<usize>) -> usize
 }
 
 /// The place of the contract of a name, if there is one.
-pub fn place_of(contracts: &[Contract], name: Name) -> Option<usize>
+pub fn place_of(contracts: &[BoxedContract], name: Name) -> Option<usize>
     ensures { result ≡ position (λ c. bytes_eq name c.name) contracts.now }
 {
-    contracts.iter().position(|contract| contract.name == name)
+    contracts
+        .iter()
+        .position(|contract| contract.contract().name == name)
 }

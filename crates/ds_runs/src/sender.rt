@@ -139,6 +139,7 @@ pub(crate) fn silent_senders(alloc: Global, accepted: &Accepted) -> Result<Vec<S
     let contracts = flows_of(accepted);
     let mut senders = Vec::with_capacity(alloc, contracts.len())?;
     for (place, contract) in contracts.iter().enumerate() {
+        let contract = contract.contract();
         let source = Source::along(accepted.domain(), accepted.route(place), &contract.terms);
         senders.push(Sender {
             sent: false,

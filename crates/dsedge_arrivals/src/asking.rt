@@ -8,7 +8,7 @@ ghost use Rattle.dsedge_arrivals.specs.Tellings.{failures_after, is_broken_off};
 
 use crate::filter::ArrivalFilter;
 use crate::telling::tell_arrivals;
-use ds_domain::{Contract, Domain, DomainFault, Kind, parse};
+use ds_domain::{BoxedContract, Domain, DomainFault, Kind, parse};
 use dsedge_texts::place_named;
 use pcap_capture::{Intake, Outlet, PcapFault};
 use std::alloc::Global;
@@ -85,7 +85,7 @@ pub fn arrivals_at<I: Intake, O: Outlet>(
 fn arrivals_of<I: Intake, O: Outlet>(
     alloc: Global,
     domain: &Domain,
-    contracts: &[Contract],
+    contracts: &[BoxedContract],
     asked: &AskedArrivals<'_>,
     intake: &mut I,
     output: &mut O,
@@ -130,7 +130,7 @@ fn tell_by<I: Intake, O: Outlet>(
 }
 
 /// The numbers of the contracts whose packets are asked for: of all, or of the first of a name, if there is one.
-fn asked_alone(contracts: &[Contract], name: Option<&str>) -> Option<Option<usize>>
+fn asked_alone(contracts: &[BoxedContract], name: Option<&str>) -> Option<Option<usize>>
     ensures { result ≡ asked_alone contracts.now (option_map (λ name. name.now) name.entry) }
 {
     match name {

@@ -5,7 +5,7 @@ ghost use Rattle.dsedge_arrivals.specs.Arrivals.{line_of, lines_from, newest_in,
 
 use af_marker::{Class, Dscp, Summary, colour_of};
 use ds_conditioner::sending::later;
-use ds_domain_base::{Contract, Name, Version};
+use ds_domain_base::{BoxedContract, Name, Version};
 use frame_marker::{PortClassifier, Sight, header_in};
 use line_text::push_number;
 use moment_core::{Colour, Moment};
@@ -19,7 +19,7 @@ pub struct ArrivalFilter<'a> {
     /// The rules of a port; none where each packet arrives whose header can be read.
     port: Option<PortClassifier>,
     /// The contracts of the domain.
-    contracts: &'a [Contract],
+    contracts: &'a [BoxedContract],
     /// The contract whose packets arrive alone.
     only: Option<usize>,
     /// Whether a line tells the colour, too.
@@ -57,7 +57,7 @@ impl<'a> ArrivalFilter<'a> {
     pub fn at_port(
         alloc: Global,
         version: Version,
-        contracts: &'a [Contract],
+        contracts: &'a [BoxedContract],
         port: Name,
         only: Option<usize>,
         has_colours: bool,
@@ -98,7 +98,7 @@ impl<'a> ArrivalFilter<'a> {
         ensures { result ≡ colour_in self.now.contracts flow dscp }
     {
         match self.contracts.get(flow as usize) {
-            Some(contract) => contract.came(dscp),
+            Some(contract) => contract.contract().came(dscp),
             None => colour_alone(dscp),
         }
     }

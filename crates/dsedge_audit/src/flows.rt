@@ -33,7 +33,7 @@ impl<'a> Flows<'a> {
     {
         let mut places = IndexMap::new(alloc);
         for (place, contract) in accepted.contracts().iter().enumerate() {
-            let name = contract.name.bytes();
+            let name = contract.contract().name.bytes();
             if !places.contains_key(name) {
                 places.insert(name, place)?;
             }

@@ -4,7 +4,7 @@ ghost use Rattle.dsedge_texts.specs.Wording.{name_of};
 ghost use Rattle.dsedge_audit.specs.SiteNames.{site_name};
 
 use ds_checker::Accepted;
-use ds_domain_base::Contract;
+use ds_domain_base::BoxedContract;
 use dsedge_texts::line::{Line, push, push_word};
 use std::alloc::AllocError;
 
@@ -35,12 +35,12 @@ pub fn write_site(line: &mut Line, accepted: &Accepted, site: u32)
 }
 
 /// Appends the name of the contract of a number to a line; nothing where there is none.
-pub fn write_name(line: &mut Line, contracts: &[Contract], number: usize)
+pub fn write_name(line: &mut Line, contracts: &[BoxedContract], number: usize)
     requires { array_vec_len line.old ≤ 105 }
     ensures text { line.new.items ≡ line.old.items ++ name_of contracts.now number }
     ensures room { array_vec_len line.new ≤ array_vec_len line.old + 32 }
 {
     if let Some(contract) = contracts.get(number) {
-        push_word(line, contract.name);
+        push_word(line, contract.contract().name);
     }
 }

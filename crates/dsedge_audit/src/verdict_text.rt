@@ -6,7 +6,7 @@ ghost use Rattle.dsedge_audit.specs.SiteNames.{site_name};
 
 use crate::names::{write_name, write_site};
 use ds_checker::Accepted;
-use ds_domain_base::Contract;
+use ds_domain_base::BoxedContract;
 use dsedge_texts::column_text;
 use dsedge_texts::line::{Line, push, push_figure};
 use moment_core::Column;
@@ -85,7 +85,13 @@ fn write_verdict(line: &mut Line, accepted: &Accepted, verdict: &Verdict)
 }
 
 /// Writes that a contract's packets in a column are over its envelope, and with which packet.
-fn write_source(line: &mut Line, contracts: &[Contract], flow: u32, column: Column, packet: u64)
+fn write_source(
+    line: &mut Line,
+    contracts: &[BoxedContract],
+    flow: u32,
+    column: Column,
+    packet: u64,
+)
     requires { array_vec_len line.old ≡ 0 }
     ensures { line.new.items ≡ line.old.items ++ codes "source-over " ++ name_of contracts.now flow ++ codes " "
         ++ column_text column ++ figure packet ++ codes "\n" }

@@ -12,7 +12,7 @@ use crate::bars::{push_meter, push_quoted};
 use crate::ways::{push_contracts, push_link};
 use ds_certificate::make;
 use ds_checker::{Candidate, Headroom, Refusal, survey_of};
-use ds_domain::{Contract, Domain, DomainFault, parse};
+use ds_domain::{BoxedContract, Domain, DomainFault, parse};
 use dsedge_texts::RefusalLine;
 use std::alloc::{AllocError, Global};
 
@@ -46,7 +46,7 @@ pub fn draw(alloc: Global, text: &[u8]) -> Result<Vec<u8>, DomainFault>
 fn draw_least(
     alloc: Global,
     domain: Domain,
-    contracts: Vec<Contract>,
+    contracts: Vec<BoxedContract>,
 ) -> Result<Vec<u8>, AllocError>
     requires { list_all (fits domain) contracts.items ≡ true }
     ensures { IfOk result (λ drawn. drawn.items ≡ drawing_of (least_table (domain, contracts.items))) }
@@ -83,7 +83,7 @@ fn draw_candidate(alloc: Global, candidate: &Candidate) -> Result<Vec<u8>, Alloc
 /// Appends how the picture is laid out, and the caption: the line of the checker's refusal, if there is one.
 fn push_caption(
     text: &mut Vec<u8>,
-    contracts: &[Contract],
+    contracts: &[BoxedContract],
     refusal: &Option<Refusal>,
 ) -> Result<(), AllocError>
     ensures { OnOk result (text.new.items ≡ text.old.items ++ head_text ++ caption_text contracts.now refusal.now) }
@@ -152,7 +152,7 @@ fn push_links(text: &mut Vec<u8>, domain: &Domain) -> Result<(), AllocError>
 }
 
 /// Appends the nodes and ways of contracts, and the end of the picture.
-fn push_sold(text: &mut Vec<u8>, contracts: &[Contract]) -> Result<(), AllocError>
+fn push_sold(text: &mut Vec<u8>, contracts: &[BoxedContract]) -> Result<(), AllocError>
     ensures { OnOk result (text.new.items ≡ text.old.items ++ contracts_text contracts.now ++ codes "}\n") }
 {
     text.extend_from_slice(SOLD.as_bytes())?;

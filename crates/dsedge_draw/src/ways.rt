@@ -5,7 +5,7 @@ ghost use Rattle.dsedge_draw.specs.Ways.{ways_text};
 ghost use Rattle.dsedge_texts.specs.Wording.{figure};
 
 use crate::bars::push_quoted;
-use ds_domain_base::{Contract, Delay, Link, Name, Parameters, Terms};
+use ds_domain_base::{BoxedContract, Contract, Delay, Link, Name, Parameters, Terms};
 use dsedge_texts::push_figure;
 use line_text::push_number;
 use moment_core::Rate;
@@ -39,10 +39,14 @@ fn push_delay(text: &mut Vec<u8>, key: &[u8], delay: Delay) -> Result<(), AllocE
 }
 
 /// Appends the nodes and the ways of contracts, in their order.
-pub(crate) fn push_contracts(text: &mut Vec<u8>, contracts: &[Contract]) -> Result<(), AllocError>
+pub(crate) fn push_contracts(
+    text: &mut Vec<u8>,
+    contracts: &[BoxedContract],
+) -> Result<(), AllocError>
     ensures { OnOk result (text.new.items ≡ text.old.items ++ ways_text 0 contracts.now) }
 {
     for (number, contract) in contracts.iter().enumerate() {
+        let contract = contract.contract();
         let colour = colour_of(number);
         push_source(text, colour, contract)?;
         push_way(text, colour, contract)?;

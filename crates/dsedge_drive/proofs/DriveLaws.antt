@@ -1,8 +1,9 @@
 -- The answer of `drive`, a line at a time.
-use Rattle.std.proofs.Common.{◌≡◌, ℕ, ◌+◌, List, ◌∷◌, [], ◌++◌, Option, None, Some, is_some, option_map, unwrap_or, true, false, refl, sym, ap, ◌∙◌, append-nil, append_assoc, length}
+use Rattle.std.proofs.Common.{◌≡◌, ℕ, ◌+◌, List, ◌∷◌, [], ◌++◌, Option, None, Some, Result, is_some, option_map, unwrap_or, true, false, refl, sym, ap, subst, ◌∙◌, append-nil, append_assoc, length}
 use Rattle.line_text.specs.Lines.{has_byte, lines_of}
-use Rattle.line_text.proofs.LineLemmas.{lines_of-cut}
-use Rattle.dsedge_lines.specs.Answers.{Answer, behind}
+use Rattle.line_text.proofs.LineLemmas.{lines_of-cut, lines_of-nil}
+use Rattle.dsedge_lines.specs.Answers.{Answer, AnswersAll, GoesOn, behind}
+use Rattle.dsedge_lines.specs.declared.command.Ending.{Ending}
 use Rattle.dsedge_lines.specs.declared.command.Ending.TheVariants.{BadLine, Whole}
 use Rattle.dsedge_lines.proofs.AnswerLemmas.{behind-append}
 use Rattle.dsedge_drive.specs.Driven.{Reply, drive_from, replied, stopped}
@@ -68,3 +69,22 @@ given_last_line s number out written text = rw text (rw (append-nil s.unsaid) re
 pub first_line : (text line rest later : List ℕ) → has_byte 10 line ≡ false → text ≡ line ++ 10 ∷ rest → lines_of (text ++ later) ≡ line ∷ lines_of (rest ++ later)
 first_line text line rest later whole is =
     ap (λ t. lines_of (t ++ later)) is ∙ ap lines_of (append_assoc line (10 ∷ rest) later) ∙ lines_of-cut line (rest ++ later) whole
+
+-- what goes on before a text that is empty goes on
+pub goes_on_alone : (whole on : List ℕ → Answer) (text rest out : List ℕ) (ended : Option Ending) → GoesOn (whole (text ++ [])) (on (rest ++ [])) out ended
+    → GoesOn (whole text) (on rest) out ended
+goes_on_alone whole on text rest out ended it =
+    subst (λ t. GoesOn (whole t) (on rest) out ended) (append-nil text) (subst (λ r. GoesOn (whole (text ++ [])) (on r) out ended) (append-nil rest) it)
+
+-- the first line of a text, where what is answered to all of it goes on
+pub first_alone : (whole on : List (List ℕ) → Answer) (text line rest : List ℕ) → lines_of text ≡ line ∷ lines_of rest → on (lines_of (text ++ [])) ≡ whole (lines_of (text ++ []))
+    → on (line ∷ lines_of rest) ≡ whole (lines_of text)
+first_alone whole on text line rest first same = ap on (sym first) ∙ subst (λ t. on (lines_of t) ≡ whole (lines_of t)) (append-nil text) same
+
+-- what is answered at the end, behind all lines of a text, is what was answered to all of them
+pub answered_whole : {E : Type 0} (whole mid on : List (List ℕ) → Answer) (front : List ℕ → Answer) (unsaid rest : List ℕ) (lines : List (List ℕ)) (written : List ℕ) (result : Result Ending E)
+    → rest ≡ [] → on (lines_of rest) ≡ mid (lines_of rest) → mid (lines_of rest) ≡ whole lines → whole lines ≡ front unsaid → unsaid ≡ []
+    → AnswersAll (on []) written result → AnswersAll (front []) written result
+answered_whole whole mid on front unsaid rest lines written result none same was begins said it =
+    let last : on [] ≡ on (lines_of rest) = ap on (sym (ap lines_of none ∙ lines_of-nil)) in
+    subst (λ all. AnswersAll all written result) (last ∙ same ∙ was ∙ begins ∙ ap front said) it

@@ -1,3 +1,4 @@
+pub mod AgainLaws
 pub mod DriveLaws
 pub mod KeepLaws
 pub mod OfferLaws

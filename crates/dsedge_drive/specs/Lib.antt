@@ -1,3 +1,4 @@
+pub mod Again
 pub mod Driven
 pub mod Kept
 pub mod Opened

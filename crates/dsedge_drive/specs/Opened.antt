@@ -1,5 +1,5 @@
 -- How a broker goes on from what its ledger keeps.
-use Rattle.std.specs.Prelude.{◌≡◌, ◌⊎◌, ℕ, List, [], length, None, Ok, Err}
+use Rattle.std.specs.Prelude.{◌≡◌, ◌⊎◌, ◌≤◌, ℕ, List, [], length, None, Ok, Err}
 use Rattle.ds_broker.specs.Books.{Book}
 use Rattle.ds_broker.specs.declared.command.Command.{Command}
 use Rattle.ds_broker.specs.declared.refusal.BrokerRefusal.TheVariants.{NoMemory}
@@ -19,6 +19,14 @@ answer_behind s number lines = behind s.unsaid (drive_from s.in_json s.offered s
 -- a book accepted commands behind those that it had, if any, and nothing else changed in it
 abbrev pub HasGrown : Book → Book → Type 0
 HasGrown old new = (more : List Command) × (replay old more ≡ Ok new)
+
+-- what was asked of a broker may be accepted, and its ledger keeps as many commands as before
+abbrev pub IsGrown : Selling → Selling → Type 0
+IsGrown old new = HasGrown old.book new.book × (new.kept ≡ old.kept)
+
+-- a ledger keeps more commands than before, if any, or tells why it keeps no more
+abbrev pub IsFurtherKept : Selling → Selling → Type 0
+IsFurtherKept old new = (new ≡ record old { kept = new.kept; fault = new.fault }) × (old.kept ≤ new.kept)
 
 -- all commands of the book are kept, or this is so
 abbrev pub IsKeptOr : Type 0 → Selling → Type 0

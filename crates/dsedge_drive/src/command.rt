@@ -2,7 +2,9 @@ ghost use Rattle.std.specs.Prelude.{◌≡◌, ℕ, ◌+◌, ◌<◌, List, [], 
 ghost use Rattle.std.specs.Prelude.{Some, is_some, length, take, option_and_then, option_map, slice_get};
 ghost use Rattle.line_text.specs.Lines.{has_byte, lines_of};
 ghost use Rattle.dsedge_lines.specs.Answers.{Answers, AnswersAll, AnswersFront, behind};
-ghost use Rattle.dsedge_drive.specs.Opened.{HasGrown, IsKeptOr, IsOpened, IsUnopened, answer_behind};
+ghost use Rattle.dsedge_drive.specs.Again.{AreAnswersFound, FollowsAll, FollowsFront, FollowsLine};
+ghost use Rattle.dsedge_drive.specs.Opened.{HasGrown, IsFurtherKept, IsGrown, IsKeptOr, IsOpened, IsUnopened};
+ghost use Rattle.dsedge_drive.specs.Opened.{answer_behind};
 ghost use Rattle.ds_broker.specs.Entries.{entries_of};
 ghost use Rattle.dsedge_drive.specs.Driven.{look_said, offer_of, offered_in, opening_book, quoted, released, replied, reserved};
 ghost use Rattle.dsedge_drive.specs.Driven.{retired, said, sold};
@@ -18,7 +20,7 @@ use crate::shop::Shop;
 use crate::wording::words_on;
 use ds_broker::{Book, Limits};
 use ds_desk::{Naming, Opened};
-use ds_domain_base::{Contract, Domain, Kind};
+use ds_domain_base::{BoxedContract, Contract, Domain, Kind};
 use ds_ledger_base::{BookFault, Ledger, LedgerFault};
 use ds_offers::Offers;
 use ds_quotes::Asked;
@@ -80,7 +82,7 @@ pub struct Sale {
     /// How much its book takes.
     pub limits: Limits,
     /// The contracts that are offered before its first line.
-    pub contracts: Vec<Contract>,
+    pub contracts: Vec<BoxedContract>,
     /// Whether what is answered is told by objects of JSON.
     pub in_json: bool,
     /// Whether there are words behind what is refused, for a person.
@@ -143,8 +145,19 @@ impl<J: Naming, R: Wait + Drop, L: Ledger + Drop> DriveCommand<J, R, L> {
         ensures recovers { L.honest result.now → L.recovers result.now }
         ensures again { L.honest result.now →
             (found : List commands.Command) → L.leaves result.now found → IsFoundAgain self.now found }
+        ensures given { L.honest result.now →
+            (found : List commands.Command) → L.leaves result.now found → AreAnswersFound self.now found }
     {
         self.keeper.ledger()
+    }
+
+    /// Its ledger, at the end.
+    pub(crate) fn into_ledger(self) -> L
+        ensures { L.honest result →
+            (found : List commands.Command) → L.leaves result found → AreAnswersFound self found }
+    {
+        let DriveCommand { keeper, .. } = self;
+        keeper.into_ledger()
     }
 
     /// Why its ledger keeps no more, if it does not: then it is of no more use.
@@ -155,10 +168,12 @@ impl<J: Naming, R: Wait + Drop, L: Ledger + Drop> DriveCommand<J, R, L> {
     }
 
     /// Offers the contract that a line says, and holds the answer back. Where memory runs out nothing is answered.
+    #[tactic(auto, using(crate::proofs::KeepLaws::grown_same))]
     fn offer(&mut self, contract: &[u8]) -> Result<(), AllocError>
-        ensures { OnOk result (self.new ≡ with_reply self.old
+        ensures said { OnOk result (self.new ≡ with_reply self.old
             (Some (offer_of self.old.book
             (offered_in self.old.in_json self.old.book.domain self.old.offered contract.now)))) }
+        ensures grown { IsGrown self.old self.new }
     {
         offer(
             self.alloc,
@@ -172,12 +187,13 @@ impl<J: Naming, R: Wait + Drop, L: Ledger + Drop> DriveCommand<J, R, L> {
 
     /// Answers a line, if it offers a contract or asks for something, and holds the answer back. Where memory runs out
     /// nothing is answered.
-    #[tactic(auto, unfolding(crate::specs::Driven::replied))]
+    #[tactic(auto, using(crate::proofs::KeepLaws::grown_same), unfolding(crate::specs::Driven::replied))]
     fn reply(&mut self, line: &[u8]) -> Result<bool, AllocError>
         ensures known { IfOk result (λ known.
             known ≡ is_some (replied self.old.in_json self.old.offered self.old.book line.now)) }
         ensures said { OnOk result (self.new
             ≡ with_reply self.old (replied self.old.in_json self.old.offered self.old.book line.now)) }
+        ensures grown { IsGrown self.old self.new }
     {
         if let Some(contract) = offer_in(line) {
             self.offer(contract)?;
@@ -195,10 +211,11 @@ impl<J: Naming, R: Wait + Drop, L: Ledger + Drop> DriveCommand<J, R, L> {
 
     /// Does what a line asks for. Where memory runs out nothing is answered.
     fn say(&mut self, request: Request) -> Result<(), AllocError>
-        ensures { OnOk result (self.new ≡ record self.old {
+        ensures said { OnOk result (self.new ≡ record self.old {
           book = (said self.old.in_json self.old.offered self.old.book request).book;
           unsaid = self.old.unsaid ++ (said self.old.in_json self.old.offered self.old.book request).text;
         }) }
+        ensures grown { IsGrown self.old self.new }
     {
         say(
             self.alloc,
@@ -234,6 +251,7 @@ impl<J: Naming, R: Wait + Drop, L: Ledger + Drop> DriveCommand<J, R, L> {
         ensures kept { OnOk result (self.new
             ≡ record self.old { unsaid = []; kept = length self.old.book.history }) }
         ensures back { OnErr result (out.new.items ≡ out.old.items) }
+        ensures further { OnErr result (IsFurtherKept self.old self.new) }
     {
         self.keeper.settle(self.shop.book().history())?;
         out.extend_from_slice(self.answers.as_slice())?;
@@ -263,7 +281,7 @@ fn has_line_end(text: &[u8]) -> bool
 #[tactic(auto, using(crate::proofs::KeepLaws::grown_same))]
 fn say<J: Naming, R: Wait + Drop>(
     alloc: Global,
-    offered: &[Contract],
+    offered: &[BoxedContract],
     shop: &mut Shop<J, R>,
     text: &mut Vec<u8>,
     request: Request,
@@ -288,10 +306,11 @@ fn say<J: Naming, R: Wait + Drop>(
 }
 
 /// The contract at a place of those that are offered, if there is one.
-fn contract_at(offered: &[Contract], place: Option<usize>) -> Option<&Contract>
+fn contract_at(offered: &[BoxedContract], place: Option<usize>) -> Option<&Contract>
     ensures { option_map (λ c. c.now) result ≡ option_and_then (slice_get offered.now) place }
 {
-    offered.get(place?)
+    let contract = offered.get(place?)?;
+    Some(contract.contract())
 }
 
 /// Reserves a contract, and appends the answer; where there is none, its name is unknown.
@@ -433,6 +452,7 @@ impl<J: Naming, R: Wait + Drop, L: Ledger + Drop> Command for DriveCommand<J, R,
             (behind out.new.items (answer_behind self.new (number + 1) later)) out.new.items result }
         ensures given { OnOk result (self.new.unsaid ≡ []) }
         ensures kept { IsKeptOr (out.new.items ≡ out.old.items) self.new }
+        ensures follows { FollowsLine result line.now self.old out.old.items self.new out.new.items }
     {
         let is_known = self.reply(line)?;
         self.give(out)?;
@@ -459,6 +479,7 @@ impl<J: Naming, R: Wait + Drop, L: Ledger + Drop> Command for DriveCommand<J, R,
         ensures given { IfOk result (λ front. IfSome front (λ parts.
             has_byte 10 parts.1.now ≡ false → self.new.unsaid ≡ [])) }
         ensures kept { IsKeptOr (out.new.items ≡ out.old.items) self.new }
+        ensures follows { FollowsFront result text.now (λ it. it.now) self.old out.old.items self.new out.new.items }
     {
         let Some((line, rest)) = cut(text, b'\n') else {
             return Ok(None);
@@ -476,6 +497,7 @@ impl<J: Naming, R: Wait + Drop, L: Ledger + Drop> Command for DriveCommand<J, R,
     fn end(&mut self, number: u64, out: &mut Vec<u8>) -> Result<Ending, AllocError>
         ensures answer { AnswersAll (behind out.old.items (answer_behind self.old number [])) out.new.items result }
         ensures kept { IsKeptOr (out.new.items ≡ out.old.items) self.new }
+        ensures follows { FollowsAll result self.old out.old.items self.new out.new.items }
     {
         self.give(out)?;
         Ok(Ending::Whole)

@@ -1,5 +1,5 @@
 //! The ledger of a broker, and how much of its book stands there.
-ghost use Rattle.std.specs.Prelude.{◌≡◌, ◌<◌, length, IsSome, OnErr, OnOk};
+ghost use Rattle.std.specs.Prelude.{◌≡◌, ◌<◌, ◌≤◌, length, IsSome, OnErr, OnOk};
 ghost use Rattle.dsedge_drive.specs.Kept.{IsKept};
 
 use ds_broker::Command;
@@ -44,6 +44,14 @@ impl<L: Ledger + Drop> Keeper<L> {
         &self.ledger
     }
 
+    /// The ledger, at the end.
+    pub(crate) fn into_ledger(self) -> L
+        ensures { result ≡ self.ledger }
+    {
+        let Keeper { ledger, .. } = self;
+        ledger
+    }
+
     /// Why it keeps no more, if it does not.
     pub(crate) fn fault(&self) -> Option<LedgerFault>
         ensures { result ≡ self.now.fault }
@@ -59,6 +67,7 @@ impl<L: Ledger + Drop> Keeper<L> {
         ensures kept { IsKept L.Ledger self.new.ledger self.new.kept history.now }
         ensures faultless { OnOk result (self.new.fault ≡ self.old.fault) }
         ensures fault { OnErr result (IsSome self.new.fault) }
+        ensures further { self.old.kept ≤ self.new.kept }
     {
         while self.kept < history.len() {
             self.keep_next(history)?;
@@ -74,6 +83,7 @@ impl<L: Ledger + Drop> Keeper<L> {
         ensures kept { IsKept L.Ledger self.new.ledger self.new.kept history.now }
         ensures faultless { OnOk result (self.new.fault ≡ self.old.fault) }
         ensures fault { OnErr result (IsSome self.new.fault) }
+        ensures further { self.old.kept ≤ self.new.kept }
     {
         let end = history.len().min(self.kept + MOST_AT_ONCE);
         match self.ledger.append(&history[self.kept..end]) {

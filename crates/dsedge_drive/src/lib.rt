@@ -3,6 +3,7 @@
 
 mod command;
 mod keeper;
+mod laws;
 mod offering;
 mod request;
 mod shop;
@@ -11,3 +12,4 @@ mod wording;
 
 pub use command::{DriveCommand, Sale, list};
 pub use ds_desk::{Naming, Opened};
+pub use laws::answers_are_found_again;

@@ -6,7 +6,7 @@ ghost use Rattle.dsedge_drive.specs.Requests.{offer_in};
 
 use crate::request::has_return;
 use ds_domain::read_contract;
-use ds_domain_base::Domain;
+use ds_domain_base::{BoxedContract, Domain};
 use ds_offers::Offers;
 use dsedge_sold::{push_offered, push_unoffered};
 use std::alloc::{AllocError, Global};
@@ -42,7 +42,7 @@ pub(crate) fn offer(
     match read_contract(alloc, domain, offers, contract) {
         Ok(contract) => {
             push_offered(alloc, text, contract.name, in_json)?;
-            offers.push(contract)
+            offers.push(BoxedContract::new(alloc, contract)?)
         }
         Err(fault) => push_unoffered(alloc, text, fault, in_json),
     }

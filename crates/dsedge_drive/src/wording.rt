@@ -3,7 +3,7 @@ use crate::request::Request;
 use ds_broker::{Book, BrokerRefusal, Command};
 use ds_certificate::make;
 use ds_checker::{Accepted, Candidate, Refusal};
-use ds_domain_base::Contract;
+use ds_domain_base::{BoxedContract, Contract};
 use dsedge_words::{contracts_said, refusal_said};
 use line_text::split_field;
 use std::alloc::{AllocError, Global};
@@ -16,14 +16,14 @@ const LONGEST_SOUGHT: usize = 64;
 /// offered, and of a contract that the checker refuses beside what the book holds; nothing of all else.
 pub(crate) fn words_on(
     alloc: Global,
-    offered: &[Contract],
+    offered: &[BoxedContract],
     book: &Book,
     request: Request,
     line: &[u8],
 ) -> Result<String, AllocError> {
     match request {
         Request::Reserve(Some(place)) => match offered.get(place) {
-            Some(contract) => refused_words(alloc, book, contract),
+            Some(contract) => refused_words(alloc, book, contract.contract()),
             None => Ok(String::new(alloc)),
         },
         Request::Reserve(None) => unknown_words(alloc, offered, line),
@@ -34,7 +34,11 @@ pub(crate) fn words_on(
 
 /// What is said of the name behind the first word of a line, which no contract has; nothing of a text that is much
 /// longer than a name may be, and of none.
-fn unknown_words(alloc: Global, offered: &[Contract], line: &[u8]) -> Result<String, AllocError> {
+fn unknown_words(
+    alloc: Global,
+    offered: &[BoxedContract],
+    line: &[u8],
+) -> Result<String, AllocError> {
     let Some(fields) = split_field(line).1 else {
         return Ok(String::new(alloc));
     };
@@ -91,12 +95,12 @@ fn uncarried_words(
 /// Contracts, and one more behind them.
 fn with_one_more(
     alloc: Global,
-    contracts: &[Contract],
+    contracts: &[BoxedContract],
     last: &Contract,
-) -> Result<Vec<Contract>, AllocError> {
+) -> Result<Vec<BoxedContract>, AllocError> {
     let mut own = Vec::new(alloc);
     for contract in contracts {
-        push_copy(alloc, &mut own, contract)?;
+        push_copy(alloc, &mut own, contract.contract())?;
     }
     push_copy(alloc, &mut own, last)?;
     Ok(own)
@@ -105,12 +109,12 @@ fn with_one_more(
 /// Adds a copy of a contract.
 fn push_copy(
     alloc: Global,
-    contracts: &mut Vec<Contract>,
+    contracts: &mut Vec<BoxedContract>,
     contract: &Contract,
 ) -> Result<(), AllocError> {
     let Ok(own) = contract.copy(alloc) else {
         return Err(AllocError);
     };
-    contracts.push(own)?;
+    contracts.push(BoxedContract::new(alloc, own)?)?;
     Ok(())
 }

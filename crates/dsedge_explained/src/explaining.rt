@@ -2,7 +2,7 @@ use crate::exporting::export_explained;
 use crate::quoting::{has_contract, quote_explained};
 use ds_certificate::{CertificateFault, make, read};
 use ds_checker::{Accepted, Candidate, Refusal, check};
-use ds_domain::{Contract, Domain, Kind, parse};
+use ds_domain::{BoxedContract, Domain, Kind, parse};
 use dsedge_base::Plan;
 use dsedge_lines::GivenName;
 use dsedge_words::{certificate_said, contracts_said, flaw_said, ports_said, refusal_said};
@@ -27,7 +27,7 @@ fn explained_by(
     alloc: Global,
     plan: &Plan<'_>,
     domain: Domain,
-    contracts: Vec<Contract>,
+    contracts: Vec<BoxedContract>,
     texts: &[Vec<u8>],
 ) -> Result<String, AllocError> {
     match plan {
@@ -66,7 +66,7 @@ fn explained_by(
 fn certificate_explained(
     alloc: Global,
     domain: Domain,
-    contracts: Vec<Contract>,
+    contracts: Vec<BoxedContract>,
     texts: &[Vec<u8>],
     port: Option<&GivenName<'_>>,
 ) -> Result<String, AllocError> {
@@ -118,7 +118,7 @@ fn port_explained(
 pub(crate) fn least_explained(
     alloc: Global,
     domain: Domain,
-    contracts: Vec<Contract>,
+    contracts: Vec<BoxedContract>,
 ) -> Result<String, AllocError> {
     match make(alloc, &domain, contracts.as_slice()) {
         Ok(certificate) => {
@@ -136,7 +136,7 @@ pub(crate) fn least_explained(
 /// What is said of a contract that there is not.
 fn contract_explained(
     alloc: Global,
-    contracts: &[Contract],
+    contracts: &[BoxedContract],
     name: &str,
 ) -> Result<String, AllocError> {
     if has_contract(contracts, name) {

@@ -1,5 +1,5 @@
 use crate::explaining::least_explained;
-use ds_domain::{Contract, Domain};
+use ds_domain::{BoxedContract, Domain};
 use ds_export::{Device, Unmade, made_parameters, remade};
 use dsedge_words::meters_said;
 use std::alloc::{AllocError, Global};
@@ -9,7 +9,7 @@ use std::alloc::{AllocError, Global};
 pub(crate) fn export_explained(
     alloc: Global,
     domain: &Domain,
-    contracts: Vec<Contract>,
+    contracts: Vec<BoxedContract>,
     name: &str,
     device: Device,
 ) -> Result<String, AllocError> {

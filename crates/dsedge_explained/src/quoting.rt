@@ -1,5 +1,5 @@
 use crate::explaining::least_explained;
-use ds_domain::{Contract, Domain};
+use ds_domain::{BoxedContract, Contract, Domain};
 use ds_quotes::{Asked, Field};
 use dsedge_words::contracts_said;
 use std::alloc::{AllocError, Global};
@@ -9,7 +9,7 @@ use std::alloc::{AllocError, Global};
 pub(crate) fn quote_explained(
     alloc: Global,
     domain: Domain,
-    contracts: Vec<Contract>,
+    contracts: Vec<BoxedContract>,
     name: &str,
     asked: Asked,
 ) -> Result<String, AllocError> {
@@ -23,26 +23,25 @@ pub(crate) fn quote_explained(
                 return fields_said(alloc, offered.as_slice(), name, field);
             }
         }
-        Asked::Count => offered.retain(|contract| contract.name.bytes() != name.as_bytes()),
+        Asked::Count => offered.retain(|contract| contract.contract().name.bytes()
+            != name.as_bytes()),
     }
     least_explained(alloc, domain, offered)
 }
 
 /// Whether one of some contracts has a name.
-pub(crate) fn has_contract(contracts: &[Contract], name: &str) -> bool {
-    contracts
-        .iter()
-        .any(|contract| contract.name.bytes() == name.as_bytes())
+pub(crate) fn has_contract(contracts: &[BoxedContract], name: &str) -> bool {
+    contracts.iter().any(|contract| contract.contract().name.bytes() == name.as_bytes())
 }
 
 /// Sets a field of the contract of a name to its least value. False where it has no such field.
-fn set_least(contracts: &mut Vec<Contract>, name: &str, field: Field) -> bool {
+fn set_least(contracts: &mut Vec<BoxedContract>, name: &str, field: Field) -> bool {
     for contract in contracts.iter_mut() {
-        if contract.name.bytes() == name.as_bytes() {
-            let Some(terms) = field.least_terms(&contract.terms) else {
+        if contract.contract().name.bytes() == name.as_bytes() {
+            let Some(terms) = field.least_terms(&contract.contract().terms) else {
                 return false;
             };
-            contract.terms = terms;
+            contract.set_terms(terms);
             return true;
         }
     }
@@ -62,7 +61,7 @@ const FIELDS: &[Field] = &[
 /// What is said of a field that the contract of a name has not: which it has.
 fn fields_said(
     alloc: Global,
-    contracts: &[Contract],
+    contracts: &[BoxedContract],
     name: &str,
     asked: Field,
 ) -> Result<String, AllocError> {
@@ -73,6 +72,7 @@ fn fields_said(
     words.push_str(name)?;
     words.push_str(" has")?;
     for contract in contracts {
+        let contract = contract.contract();
         if contract.name.bytes() == name.as_bytes() {
             push_fields(&mut words, contract)?;
         }

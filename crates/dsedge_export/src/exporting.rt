@@ -9,7 +9,7 @@ ghost use Rattle.ds_quotes.specs.Quotes.{with_least};
 ghost use Rattle.dsedge_export.specs.Exported.{export_at, export_in, judged, lines_of, told_made, unmade_line};
 
 use crate::words::{push_made, push_words};
-use ds_domain::{Contract, Domain, Kind, Name, SoundParameters, parse};
+use ds_domain::{BoxedContract, Domain, Kind, Name, SoundParameters, parse};
 use ds_export::{Device, Unmade, check_with, made_parameters};
 use dsedge_texts::{QuoteFault, RefusalLine};
 use std::alloc::{AllocError, Global};
@@ -50,7 +50,7 @@ pub fn export(
 fn export_named(
     alloc: Global,
     domain: &Domain,
-    contracts: Vec<Contract>,
+    contracts: Vec<BoxedContract>,
     name: &str,
     device: Device,
 ) -> Result<Exported, QuoteFault>
@@ -76,7 +76,7 @@ fn export_named(
 fn told_made(
     alloc: Global,
     domain: &Domain,
-    contracts: Vec<Contract>,
+    contracts: Vec<BoxedContract>,
     name: Name,
     device: Device,
     parameters: SoundParameters,
@@ -127,7 +127,7 @@ fn unmade(alloc: Global, why: Unmade) -> Result<Exported, AllocError>
 fn judged(
     alloc: Global,
     domain: &Domain,
-    contracts: Vec<Contract>,
+    contracts: Vec<BoxedContract>,
     name: Name,
     made: SoundParameters,
     lines: Vec<u8>,

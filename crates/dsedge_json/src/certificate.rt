@@ -9,7 +9,7 @@ ghost use Rattle.dsedge_json.specs.Certificates.{IsToldBehind, are_short, bound_
 ghost use Rattle.dsedge_json.specs.Certificates.{certificate_data, certificate_text_in, tokens_of, version_of};
 
 use ds_certificate::{Bound, Bounds, Certificate};
-use ds_domain::Contract;
+use ds_domain::BoxedContract;
 use dsedge_texts::name_text;
 use json::Writer;
 use std::alloc::{AllocError, Global};
@@ -18,7 +18,7 @@ use std::alloc::{AllocError, Global};
 /// it than its text.
 pub(crate) fn certificate_line(
     alloc: Global,
-    contracts: &[Contract],
+    contracts: &[BoxedContract],
     certificate: &Certificate,
 ) -> Result<Vec<u8>, AllocError>
     ensures object { IfOk result (λ text. IsLineOf (certificate_data contracts.now certificate.now) text.items) }
@@ -36,7 +36,7 @@ pub(crate) fn certificate_line(
 /// Writes the object of a certificate of some contracts.
 fn push_certificate(
     out: &mut Writer,
-    contracts: &[Contract],
+    contracts: &[BoxedContract],
     certificate: &Certificate,
 ) -> Result<(), AllocError>
     ensures { OnOk result (IsToldBehind
@@ -53,11 +53,15 @@ fn push_certificate(
 }
 
 /// Writes the objects of the bounds of contracts, in their order.
-fn push_rows(out: &mut Writer, contracts: &[Contract], rows: &[Bounds]) -> Result<(), AllocError>
+fn push_rows(
+    out: &mut Writer,
+    contracts: &[BoxedContract],
+    rows: &[Bounds],
+) -> Result<(), AllocError>
     ensures { OnOk result (IsToldBehind (tokens_of (bounds_for contracts.now rows.now)) out.old out.new) }
 {
     for (contract, bounds) in contracts.iter().zip(rows) {
-        push_bounds(out, name_text(&contract.name), bounds)?;
+        push_bounds(out, name_text(&contract.contract().name), bounds)?;
     }
     Ok(())
 }

@@ -10,7 +10,7 @@ ghost use Rattle.dsedge_json.specs.Quotations.{quote_lines_in, quote_told};
 use crate::answering::Told;
 use crate::refusal::refusal_value;
 use ds_checker::Refusal;
-use ds_domain::Contract;
+use ds_domain::BoxedContract;
 use ds_quotes::Field;
 use dsedge_texts::Quoted;
 use json_lines::{figure, line_of};
@@ -93,7 +93,7 @@ fn fitting_value(alloc: Global, count: u64) -> Result<Value, AllocError>
 /// The object of no value, with what the checker says of contracts, if anything.
 fn nothing_value(
     alloc: Global,
-    contracts: &[Contract],
+    contracts: &[BoxedContract],
     refusal: Option<Refusal>,
 ) -> Result<Value, AllocError>
     ensures { IfOk result (λ object. view object ≡ nothing_data contracts.now refusal) }
@@ -107,7 +107,7 @@ fn nothing_value(
 /// The object of no value, with a refusal of contracts.
 fn nothing_against(
     alloc: Global,
-    contracts: &[Contract],
+    contracts: &[BoxedContract],
     refusal: &Refusal,
 ) -> Result<Value, AllocError>
     ensures { IfOk result (λ object. view object ≡ nothing_data contracts.now (Some refusal.now)) }

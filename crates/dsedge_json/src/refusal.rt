@@ -5,7 +5,7 @@ ghost use Rattle.dsedge_json.specs.Objects.{accepted_data, check_line_in, first_
 ghost use Rattle.dsedge_texts.specs.Refused.{refusal_line};
 
 use ds_checker::Refusal;
-use ds_domain::{Contract, Name};
+use ds_domain::{BoxedContract, Name};
 use dsedge_texts::{column_text, contract_text, name_text};
 use json_lines::{figure, line_of};
 use moment_core::Column;
@@ -33,7 +33,7 @@ fn accepted_value(alloc: Global) -> Result<Value, AllocError>
 #[tactic(auto, using(crate::proofs::ObjectLaws::refusal_plain, crate::proofs::ObjectLaws::refusal_shallow, crate::proofs::ObjectLaws::refusal_says))]
 pub fn refusal_object(
     alloc: Global,
-    contracts: &[Contract],
+    contracts: &[BoxedContract],
     refusal: &Refusal,
 ) -> Result<Vec<u8>, AllocError>
     ensures object { IfOk result (λ text. IsLineOf (refusal_data contracts.now refusal.now) text.items) }
@@ -48,7 +48,7 @@ pub fn refusal_object(
 /// The object of a refusal of some contracts.
 pub(crate) fn refusal_value(
     alloc: Global,
-    contracts: &[Contract],
+    contracts: &[BoxedContract],
     refusal: &Refusal,
 ) -> Result<Value, AllocError>
     ensures { IfOk result (λ value. view value ≡ refusal_data contracts.now refusal.now) }

@@ -8,7 +8,7 @@ ghost use Rattle.dsedge_texts.specs.Refused.{refusal_line};
 use crate::refusing::RefusalLine;
 use ds_certificate::{Certificate, CertificateFault, fault_line, read};
 use ds_checker::{Accepted, Candidate, Refusal, check};
-use ds_domain::{Contract, Domain, DomainFault, Kind, parse};
+use ds_domain::{BoxedContract, Domain, DomainFault, Kind, parse};
 use std::alloc::Global;
 
 /// A line of a certificate's text that is at fault.
@@ -73,7 +73,7 @@ pub fn candidate_in(
 fn candidate_of(
     alloc: Global,
     domain: Domain,
-    contracts: Vec<Contract>,
+    contracts: Vec<BoxedContract>,
     certificate: &[u8],
 ) -> Result<Candidate, TableFault>
     ensures ok { IfOk result (λ candidate.
@@ -96,7 +96,7 @@ fn candidate_of(
 fn certificate_said(
     alloc: Global,
     text: &[u8],
-    contracts: &[Contract],
+    contracts: &[BoxedContract],
 ) -> Result<Certificate, TableFault>
     ensures ok { IfOk result (λ certificate. certificate_in contracts.now text.now ≡ Ok certificate) }
     ensures refused { IfErr result (λ fault.
@@ -128,7 +128,7 @@ pub(crate) fn judge(alloc: Global, candidate: Candidate) -> Result<Accepted, Tab
 }
 
 /// The fault of a table that is refused, by the refusal of its contracts' certificate.
-fn told(contracts: &[Contract], refusal: Refusal) -> TableFault
+fn told(contracts: &[BoxedContract], refusal: Refusal) -> TableFault
     ensures memory { refusal ≡ Refusal.NoMemory → result ≡ TableFault.NoMemory }
     ensures line { ((result ≡ TableFault.NoMemory) × (refusal ≡ Refusal.NoMemory))
         ⊎ (result ≡ TableFault.Refused (refusal_line contracts.now refusal)) }

@@ -6,7 +6,7 @@ ghost use Rattle.ds_domain_base.specs.Faults.{no_memory};
 ghost use Rattle.dsedge_texts.specs.Certified.{certified};
 
 use ds_certificate::{Certificate, CertificateFault, make, write};
-use ds_domain::{Contract, Domain, DomainFault, parse};
+use ds_domain::{BoxedContract, Domain, DomainFault, parse};
 use std::alloc::{AllocError, Global};
 
 /// The text of the least certificate of the domain and the contracts that a domain text says.
@@ -26,7 +26,7 @@ pub fn certify(alloc: Global, text: &[u8]) -> Result<Vec<u8>, DomainFault>
 fn least_text(
     alloc: Global,
     domain: &Domain,
-    contracts: &[Contract],
+    contracts: &[BoxedContract],
 ) -> Result<Vec<u8>, DomainFault>
     requires { list_all (fits domain.now) contracts.now ≡ true }
     ensures text { IfOk result (λ text. text.items ≡ text_of contracts.now (least domain.now contracts.now)) }
@@ -40,7 +40,7 @@ fn least_text(
 pub(crate) fn least_certificate(
     alloc: Global,
     domain: &Domain,
-    contracts: &[Contract],
+    contracts: &[BoxedContract],
 ) -> Result<Certificate, AllocError>
     requires { list_all (fits domain.now) contracts.now ≡ true }
     ensures value { IfOk result (λ certificate. certificate ≡ least domain.now contracts.now) }
@@ -57,7 +57,7 @@ pub(crate) fn least_certificate(
 fn text_of(
     alloc: Global,
     certificate: &Certificate,
-    contracts: &[Contract],
+    contracts: &[BoxedContract],
 ) -> Result<Vec<u8>, AllocError>
     requires { is_shaped contracts.now certificate.now ≡ true }
     ensures { IfOk result (λ text. text.items ≡ text_of contracts.now certificate.now) }

@@ -10,7 +10,7 @@ use crate::accepting::{TableFault, judge};
 use crate::certifying::least_certificate;
 use crate::wording::push_wide_figure;
 use ds_checker::{Accepted, Candidate, Headroom, Utilization};
-use ds_domain::{Contract, Domain, Kind, Name, parse};
+use ds_domain::{BoxedContract, Domain, Kind, Name, parse};
 use std::alloc::{AllocError, Global};
 
 /// What is taken and what there is at each meter of the domain that a text says, under the least certificate of its
@@ -46,7 +46,7 @@ pub fn least_candidate(alloc: Global, text: &[u8]) -> Result<Candidate, TableFau
 fn with_least(
     alloc: Global,
     domain: Domain,
-    contracts: Vec<Contract>,
+    contracts: Vec<BoxedContract>,
 ) -> Result<Candidate, TableFault>
     requires { list_all (fits domain) contracts.items ≡ true }
     ensures ok { IfOk result (λ candidate. table_of candidate ≡ least_table (domain, contracts.items)) }

@@ -15,7 +15,7 @@ use crate::certifying::least_certificate;
 use crate::refusing::RefusalLine;
 use crate::wording::push_figure;
 use ds_checker::{Accepted, Candidate, Refusal, check};
-use ds_domain::{Contract, Domain, DomainFault, Kind, Terms, parse};
+use ds_domain::{BoxedContract, Contract, Domain, DomainFault, Kind, Terms, parse};
 use ds_quotes::{Asked, Field, count_without, quoted_without};
 use std::alloc::{AllocError, Global};
 
@@ -37,7 +37,7 @@ pub enum Quoted {
     /// No value is.
     None {
         /// The contracts that the refusal speaks of; none are needed where it names none.
-        contracts: Vec<Contract>,
+        contracts: Vec<BoxedContract>,
         /// What the checker says against them, if anything.
         refusal: Option<Refusal>,
     },
@@ -108,7 +108,7 @@ pub fn quote(alloc: Global, text: &[u8], name: &[u8], asked: Asked) -> Result<Qu
 fn quote_named(
     alloc: Global,
     domain: Domain,
-    contracts: Vec<Contract>,
+    contracts: Vec<BoxedContract>,
     name: &[u8],
     asked: Asked,
 ) -> Result<Quoted, QuoteFault>
@@ -129,21 +129,21 @@ fn quote_named(
 }
 
 /// Where the first contract of a name stands, if one has it.
-pub fn place_named(contracts: &[Contract], name: &[u8]) -> Option<usize>
+pub fn place_named(contracts: &[BoxedContract], name: &[u8]) -> Option<usize>
     ensures { result ≡ place_named contracts.now name.now }
 {
     contracts
         .iter()
-        .position(|contract| contract.name.bytes() == name)
+        .position(|contract| contract.contract().name.bytes() == name)
 }
 
 /// The same of a contract beside others, before the one of a place.
 fn asked_beside(
     alloc: Global,
     domain: Domain,
-    others: Vec<Contract>,
+    others: Vec<BoxedContract>,
     place: usize,
-    contract: Contract,
+    contract: BoxedContract,
     asked: Asked,
 ) -> Result<Quoted, QuoteFault>
     requires fit { list_all (fits domain) others.items ≡ true }
@@ -156,7 +156,7 @@ fn asked_beside(
 {
     match asked {
         Asked::Most(field) => quote_beside(alloc, domain, others, place, contract, field),
-        Asked::Count => count_beside(alloc, domain, others, &contract),
+        Asked::Count => count_beside(alloc, domain, others, contract.contract()),
     }
 }
 
@@ -164,7 +164,7 @@ fn asked_beside(
 fn count_beside(
     alloc: Global,
     domain: Domain,
-    others: Vec<Contract>,
+    others: Vec<BoxedContract>,
     contract: &Contract,
 ) -> Result<Quoted, QuoteFault>
     requires { list_all (fits domain) others.items ≡ true }
@@ -234,9 +234,9 @@ pub fn push_asked_without(
 fn quote_beside(
     alloc: Global,
     domain: Domain,
-    others: Vec<Contract>,
+    others: Vec<BoxedContract>,
     place: usize,
-    contract: Contract,
+    contract: BoxedContract,
     field: Field,
 ) -> Result<Quoted, QuoteFault>
     requires fit { list_all (fits domain) others.items ≡ true }
@@ -247,11 +247,11 @@ fn quote_beside(
     ensures refused { IfErr result (λ fault. (fault ≡ QuoteFault.NoMemory)
         ⊎ (quote_on domain others.items place contract field (least_terms field contract.terms) ≡ Err fault)) }
 {
-    let Some(terms) = field.least_terms(&contract.terms) else {
+    let Some(terms) = field.least_terms(&contract.contract().terms) else {
         return Err(QuoteFault::NoField);
     };
     match accepted_by(alloc, domain, others) {
-        Ok(accepted) => Ok(quote_over(alloc, &accepted, &contract, field)),
+        Ok(accepted) => Ok(quote_over(alloc, &accepted, contract.contract(), field)),
         Err(Some((domain, others))) => none_of(alloc, domain, others, place, contract, terms),
         Err(None) => Err(QuoteFault::NoMemory),
     }
@@ -262,8 +262,8 @@ fn quote_beside(
 fn accepted_by(
     alloc: Global,
     domain: Domain,
-    contracts: Vec<Contract>,
-) -> Result<Accepted, Option<(Domain, Vec<Contract>)>>
+    contracts: Vec<BoxedContract>,
+) -> Result<Accepted, Option<(Domain, Vec<BoxedContract>)>>
     requires { list_all (fits domain) contracts.items ≡ true }
     ensures accepted { IfOk result (λ accepted. accepted ≡ with_least domain contracts.items) }
     ensures unrefused { OnOk result (refusal_of (with_least domain contracts.items) ≡ None) }
@@ -287,7 +287,7 @@ fn accepted_by(
 }
 
 /// The domain and the contracts of a candidate.
-fn parts_of(candidate: Candidate) -> (Domain, Vec<Contract>)
+fn parts_of(candidate: Candidate) -> (Domain, Vec<BoxedContract>)
     ensures { (result.0 ≡ candidate.domain) × (result.1.items ≡ candidate.contracts.items) }
 {
     let Candidate {
@@ -352,7 +352,7 @@ fn push_value(text: &mut Vec<u8>, field: Field, value: u64) -> Result<(), AllocE
 /// Appends `none`, and the checker's line of a refusal of some contracts, if there is one.
 fn push_none(
     text: &mut Vec<u8>,
-    contracts: &[Contract],
+    contracts: &[BoxedContract],
     refusal: Option<Refusal>,
 ) -> Result<(), AllocError>
     ensures { OnOk result (text.new.items ≡ text.old.items ++ none_lines contracts.now refusal) }
@@ -368,9 +368,9 @@ fn push_none(
 fn none_of(
     alloc: Global,
     domain: Domain,
-    others: Vec<Contract>,
+    others: Vec<BoxedContract>,
     place: usize,
-    contract: Contract,
+    contract: BoxedContract,
     terms: Terms,
 ) -> Result<Quoted, QuoteFault>
     requires fit { list_all (fits domain) others.items ≡ true }
@@ -381,7 +381,7 @@ fn none_of(
 {
     let mut contracts = others;
     let mut contract = contract;
-    contract.terms = terms;
+    contract.set_terms(terms);
     let Ok(()) = contracts.insert(place, contract) else {
         return Err(QuoteFault::NoMemory);
     };
@@ -389,7 +389,11 @@ fn none_of(
 }
 
 /// No value, and what the checker says of contracts that fit a domain with their least certificate.
-fn none_with(alloc: Global, domain: Domain, contracts: Vec<Contract>) -> Result<Quoted, QuoteFault>
+fn none_with(
+    alloc: Global,
+    domain: Domain,
+    contracts: Vec<BoxedContract>,
+) -> Result<Quoted, QuoteFault>
     requires { list_all (fits domain) contracts.items ≡ true }
     ensures told { IfOk result (λ quoted.
         nothing_told contracts.items (refusal_of (with_least domain contracts.items)) ≡ said_in quoted) }

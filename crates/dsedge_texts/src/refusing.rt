@@ -7,7 +7,7 @@ ghost use Rattle.dsedge_texts.specs.Wording.{name_of};
 use crate::line::{Line, push, push_figure, push_word};
 use crate::wording::column_text;
 use ds_checker::Refusal;
-use ds_domain::{Contract, Name};
+use ds_domain::{BoxedContract, Name};
 use itoa::Buffer;
 use moment_core::Column;
 use std::marker::Model;
@@ -29,7 +29,7 @@ impl Model for RefusalLine {
 
 impl RefusalLine {
     /// The line of a refusal of some contracts.
-    pub fn new(contracts: &[Contract], refusal: &Refusal) -> Self
+    pub fn new(contracts: &[BoxedContract], refusal: &Refusal) -> Self
         ensures { result ≡ refusal_line contracts.now refusal.now }
     {
         let mut text = Line::new();
@@ -67,7 +67,7 @@ fn test_text(refusal: &Refusal) -> &'static [u8]
 }
 
 /// Appends where a refusal is, and its figures.
-fn push_place(text: &mut Line, contracts: &[Contract], refusal: &Refusal)
+fn push_place(text: &mut Line, contracts: &[BoxedContract], refusal: &Refusal)
     requires { array_vec_len text.now ≤ 21 }
     ensures text { text.new.items ≡ text.old.items ++ place_text contracts.now refusal.now }
     ensures room { array_vec_len text.new < 192 }
@@ -137,13 +137,13 @@ fn push_meter_place(text: &mut Line, refusal: &Refusal)
 }
 
 /// Appends the name of the contract of a number; nothing where there is none.
-fn push_name(text: &mut Line, contracts: &[Contract], number: usize)
+fn push_name(text: &mut Line, contracts: &[BoxedContract], number: usize)
     requires { array_vec_len text.now ≤ 21 }
     ensures text { text.new.items ≡ text.old.items ++ name_of contracts.now number }
     ensures room { array_vec_len text.new ≤ 53 }
 {
     if let Some(contract) = contracts.get(number) {
-        push_word(text, contract.name);
+        push_word(text, contract.contract().name);
     }
 }
 

@@ -1,7 +1,7 @@
 ghost use Rattle.std.specs.Prelude.{◌≡◌, ◌++◌, OnOk};
 ghost use Rattle.dsedge_texts.specs.Wording.{column_text, figure, kind_text, name_of, text_or_dash};
 
-use ds_domain::{Contract, Kind, Name};
+use ds_domain::{BoxedContract, Kind, Name};
 use itoa::Buffer;
 use line_text::push_number;
 use moment_core::Column;
@@ -10,13 +10,13 @@ use std::alloc::AllocError;
 /// Appends the name of the contract of a number; nothing where there is none.
 pub fn push_name(
     text: &mut Vec<u8>,
-    contracts: &[Contract],
+    contracts: &[BoxedContract],
     number: usize,
 ) -> Result<(), AllocError>
     ensures { OnOk result (text.new.items ≡ text.old.items ++ name_of contracts.now number) }
 {
     match contracts.get(number) {
-        Some(contract) => text.extend_from_slice(contract.name.bytes()),
+        Some(contract) => text.extend_from_slice(contract.contract().name.bytes()),
         None => Ok(()),
     }
 }
@@ -33,11 +33,11 @@ pub fn name_text(name: &Name) -> &str
 }
 
 /// The name of the contract at a place, as text; none where there is none.
-pub fn contract_text(contracts: &[Contract], place: usize) -> &str
+pub fn contract_text(contracts: &[BoxedContract], place: usize) -> &str
     ensures { result.now ≡ name_of contracts.now place }
 {
     match contracts.get(place) {
-        Some(contract) => name_text(&contract.name),
+        Some(contract) => name_text(&contract.contract().name),
         None => "",
     }
 }

@@ -1,6 +1,6 @@
 use crate::nearest::Nearest;
 use crate::shown::{name_text, push_shown};
-use ds_domain_base::{Contract, Domain};
+use ds_domain_base::{BoxedContract, Domain};
 use std::alloc::{AllocError, Global};
 
 /// How many names are listed.
@@ -75,12 +75,12 @@ pub fn meters_said(alloc: Global, domain: &Domain, sought: &str) -> Result<Strin
 /// The same of the name of a contract, of those that there are.
 pub fn contracts_said(
     alloc: Global,
-    contracts: &[Contract],
+    contracts: &[BoxedContract],
     sought: &str,
 ) -> Result<String, AllocError> {
     let mut listing = Listing::of(alloc, "contracts", sought)?;
     for contract in contracts {
-        listing.push(alloc, name_text(&contract.name))?;
+        listing.push(alloc, name_text(&contract.contract().name))?;
     }
     listing.told()
 }

@@ -77,7 +77,7 @@ fn push_bound(
     let (contract, hop) = place;
     let (needed, given) = figures;
     if let Some(contract) = candidate.contracts.as_slice().get(contract) {
-        words.push_str(name_text(&contract.name))?;
+        words.push_str(name_text(&contract.contract().name))?;
     }
     words.push_str(": its ")?;
     words.push_str(column_said(column))?;
@@ -101,6 +101,7 @@ fn push_hop(
     let Some(contract) = candidate.contracts.as_slice().get(contract) else {
         return Ok(());
     };
+    let contract = contract.contract();
     if hop == 0 {
         words.push_str("where they enter, at ")?;
         return words.push_str(name_text(&contract.port));

@@ -72,6 +72,7 @@ fn shares_at(
         .iter()
         .zip(candidate.certificate.bounds())
     {
+        let contract = contract.contract();
         if !counts(contract, summed) {
             continue;
         }

@@ -14,7 +14,7 @@ ghost use Rattle.frame_marker.specs.Sights.{flow_of, heeded, sight_of, sight_wit
 use crate::mark::Mark;
 use crate::sight::{Seen, Sight};
 use af_marker::{Summary, header, ipv6_header};
-use ds_domain_base::{Contract, Name, Version};
+use ds_domain_base::{BoxedContract, Name, Version};
 use flow_classifier::{FlowRule, Key, RuleTables};
 use pcap_capture::{Content, Family, Frame, LinkType, Piece};
 use std::alloc::{AllocError, Global};
@@ -41,12 +41,17 @@ impl Model for PortClassifier {
 
 /// The rules of the contracts of a port, in their order, each with the number of its contract; `AllocError` where memory
 /// runs out.
-fn rules_of(alloc: Global, contracts: &[Contract], port: Name) -> Result<Vec<FlowRule>, AllocError>
+fn rules_of(
+    alloc: Global,
+    contracts: &[BoxedContract],
+    port: Name,
+) -> Result<Vec<FlowRule>, AllocError>
     ensures { IfOk result (λ rules. (key : Key) → first_flow_of rules.items key ≡ flow_of contracts.now port key) }
 {
     let heeded = &contracts[..MOST_CONTRACTS.min(contracts.len())];
     let mut rules = Vec::new(alloc);
     for (place, contract) in heeded.iter().enumerate() {
+        let contract = contract.contract();
         if port == contract.port {
             let flow = place as u32;
             rules.push(FlowRule {
@@ -63,7 +68,7 @@ impl PortClassifier {
     pub fn new(
         alloc: Global,
         version: Version,
-        contracts: &[Contract],
+        contracts: &[BoxedContract],
         port: Name,
     ) -> Result<Self, AllocError>
         ensures { IfOk result (λ classifier. (link : LinkType) (bytes : List ℕ) → sight_at classifier link bytes

@@ -46,6 +46,6 @@ impl<'a> Numbered<'a> {
         requires { place < length self.now.flows.now }
         ensures { slice_get self.now.accepted.now.contracts place ≡ Some result.now }
     {
-        &self.accepted.contracts()[place]
+        self.accepted.contracts()[place].contract()
     }
 }

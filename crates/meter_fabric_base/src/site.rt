@@ -3,7 +3,7 @@ ghost use Rattle.meter_fabric_base.specs.Grounds.{contract_of, flow_count, groun
 ghost use Rattle.meter_fabric_base.specs.Openings.{book_with, edge_opening, opening_at, site_count};
 
 use ds_checker::Accepted;
-use ds_domain_base::{Contract, Domain};
+use ds_domain_base::{BoxedContract, Contract, Domain};
 use meter_book::{AnyMeter, MeterBook};
 use moment_core::Gap;
 use std::alloc::Global;
@@ -90,7 +90,7 @@ pub fn contract_of(accepted: &Accepted, flow: u32) -> Option<&Contract>
 }
 
 /// The contracts that packets can be of, each at the place of its flow.
-pub fn flows_of(accepted: &Accepted) -> &[Contract]
+pub fn flows_of(accepted: &Accepted) -> &[BoxedContract]
     ensures { result.now ≡ take most_flows accepted.now.contracts }
 {
     let contracts = accepted.contracts();
@@ -98,8 +98,9 @@ pub fn flows_of(accepted: &Accepted) -> &[Contract]
 }
 
 /// The contract at a place, if there is one.
-fn contract_in(contracts: &[Contract], place: usize) -> Option<&Contract>
+fn contract_in(contracts: &[BoxedContract], place: usize) -> Option<&Contract>
     ensures { option_copied result ≡ slice_get contracts.now place }
 {
-    contracts.get(place)
+    let contract = contracts.get(place)?;
+    Some(contract.contract())
 }

@@ -1,7 +1,7 @@
 use ds_broker::{Book, BrokerRefusal, Limits};
 use ds_checker::Refusal;
 use ds_domain::parse;
-use ds_domain_base::{Contract, DomainFault, Field, Kind, Name, Section};
+use ds_domain_base::{BoxedContract, Contract, DomainFault, Field, Kind, Name, Section};
 use moment_core::Moment;
 use std::alloc::Global;
 use std::process::Abort;
@@ -13,7 +13,7 @@ pub struct Opened {
     /// The book.
     pub book: Book,
     /// The contracts.
-    pub contracts: Vec<Contract>,
+    pub contracts: Vec<BoxedContract>,
 }
 
 /// Limits of so many contracts and so many commands.
@@ -173,13 +173,13 @@ fn wanted<T: Copy>(rt: &impl Abort, answer: &Result<T, Why>) -> Result<T, Broker
 fn expect_step(
     rt: &impl Abort,
     alloc: Global,
-    (name, book, contracts): (&str, &mut Book, &[Contract]),
+    (name, book, contracts): (&str, &mut Book, &[BoxedContract]),
     step: &Step,
 ) {
     match step {
         Step::Reserve(place, answer) => {
             let contract = contracts.get(*place).expect(rt, name);
-            let found = reserved(rt, alloc, book, contract);
+            let found = reserved(rt, alloc, book, contract.contract());
             assert_eq!(rt; (name, found), (name, wanted(rt, answer)));
         }
         Step::Release(id, at, answer) => {

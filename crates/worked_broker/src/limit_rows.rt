@@ -90,7 +90,7 @@ fn a_book_holds_65_536_contracts_and_counts_on(rt: HostRuntime) {
     let Opened { book, contracts } = book_over(&rt, alloc, &parts, most);
     let mut book = book;
     let first = contracts.first().expect(&rt, "a contract");
-    let contract = first.copy(alloc).expect(&rt, "memory");
+    let contract = first.contract().copy(alloc).expect(&rt, "memory");
     drop(contracts);
     fill(&rt, alloc, &mut book, &contract);
     expect_table_full(&rt, &mut book, named(&rt, alloc, &contract, 0));

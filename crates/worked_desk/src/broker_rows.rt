@@ -2,7 +2,7 @@ use crate::desks::{Row, contract, full, looked, released, reserved, retired, run
 use af_marker::Dscp;
 use ds_broker::BrokerRefusal;
 use ds_desk::{Broker, Feed, Front, Granted, LookFault, Naming};
-use ds_domain_base::Contract;
+use ds_domain_base::{BoxedContract, Contract};
 use ds_timeline::Timeline;
 use meter_fabric_base::{Numbered, Traveller, Ways};
 use moment_core::{Moment, PacketSize};
@@ -125,7 +125,7 @@ pub fn sold_anew<J: Naming, R: Wait + Abort + Drop>(
     alloc: Global,
     broker: Broker<J, R>,
     feed: Feed<J>,
-    contracts: &[Contract],
+    contracts: &[BoxedContract],
 ) {
     let feed = first_sold(rt, &broker, feed, contract(rt, alloc, contracts, 0));
     assert_eq!(rt; released(rt, &broker, 1, 1_000_000_000), Ok((2, 2)));

@@ -9,7 +9,7 @@ use ds_broker::{BrokerRefusal, Limits};
 use ds_checker::Refusal;
 use ds_desk::{Broker, Desk, Done, Feed, Granted, Naming, Opened, Refused, Seen};
 use ds_domain::parse;
-use ds_domain_base::{Contract, Domain, Name};
+use ds_domain_base::{BoxedContract, Contract, Domain, Name};
 use moment_core::Moment;
 use std::alloc::{AllocError, Global};
 use std::marker::Brand;
@@ -23,7 +23,7 @@ use worked_texts::{A, B, C, D, LINK, POLICED, PORT, SHARE, TRUSTED, TWO_RATES, j
 pub struct Plan {
     pub domain: Domain,
     pub limits: Limits,
-    pub contracts: Vec<Contract>,
+    pub contracts: Vec<BoxedContract>,
 }
 
 /// The domain of a text, for a table of 4,096 contracts and a history of 65,536 commands.
@@ -95,9 +95,14 @@ pub fn full(rt: &impl Abort) -> BrokerRefusal {
 }
 
 /// A copy of the contract at a place.
-pub fn contract(rt: &impl Abort, alloc: Global, contracts: &[Contract], place: usize) -> Contract {
+pub fn contract(
+    rt: &impl Abort,
+    alloc: Global,
+    contracts: &[BoxedContract],
+    place: usize,
+) -> Contract {
     let contract = contracts.get(place).expect(rt, "a contract at that place");
-    contract.copy(alloc).expect(rt, "memory")
+    contract.contract().copy(alloc).expect(rt, "memory")
 }
 
 /// What is done with a broker that has no commands yet.
@@ -163,7 +168,7 @@ fn run<J: Naming + Send + Sync, R: Threads + Wait + Abort + Copy + Drop + Send +
     alloc: Global,
     broker: Broker<J, R>,
     feeds: Vec<Feed<J>>,
-    contracts: &[Contract],
+    contracts: &[BoxedContract],
     row: Row,
 ) {
     match row {

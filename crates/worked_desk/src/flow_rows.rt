@@ -2,7 +2,7 @@
 use crate::desks::{Row, contract, mixed, released, reserved, retired, run_over};
 use af_marker::Dscp;
 use ds_desk::{Broker, Feed, Naming};
-use ds_domain_base::Contract;
+use ds_domain_base::BoxedContract;
 use meter_fabric_base::{BeginFault, Numbered, Traveller, Ways};
 use moment_core::{Moment, PacketSize};
 use std::alloc::Global;
@@ -69,7 +69,7 @@ fn two_stay<J: Naming, R: Wait + Drop, W: Wait + Abort>(
     rt: &W,
     alloc: Global,
     broker: &Broker<J, R>,
-    contracts: &[Contract],
+    contracts: &[BoxedContract],
 ) {
     for place in 0..4 {
         let sold = reserved(rt, broker, contract(rt, alloc, contracts, place));
@@ -98,7 +98,7 @@ pub fn begun_by_flows<J: Naming, R: Wait + Abort + Drop>(
     alloc: Global,
     broker: Broker<J, R>,
     feed: Feed<J>,
-    contracts: &[Contract],
+    contracts: &[BoxedContract],
 ) {
     two_stay(rt, alloc, &broker, contracts);
     expect_seen(rt, alloc, feed);

@@ -4,7 +4,7 @@ ghost use Rattle.std.specs.Prelude.{◌≡◌, ◌<◌, []};
 use crate::desks::{Plan, many};
 use ds_broker::Limits;
 use ds_desk::{Naming, Opened};
-use ds_domain_base::{Contract, Domain};
+use ds_domain_base::{BoxedContract, Domain};
 use ds_ledger_base::Unkept;
 use dsedge_drive::{DriveCommand, Sale};
 use dsedge_lines::Command;
@@ -104,7 +104,7 @@ fn filled<J: Naming, R: Wait + Abort + Copy + Drop>(
     log: Opened,
     domain: Domain,
     limits: Limits,
-    contracts: Vec<Contract>,
+    contracts: Vec<BoxedContract>,
 )
     requires log { log ≡ J.log }
     requires opening { J.opening ≡ record { domain = domain; limits = limits; history = [] } }

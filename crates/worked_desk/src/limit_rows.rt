@@ -4,7 +4,7 @@ ghost use Rattle.std.specs.Prelude.{◌≡◌, []};
 use crate::desks::{Plan, Row, contract, released, reserved, retired, run_over, wide};
 use ds_broker::{BrokerRefusal, Limits};
 use ds_desk::{Broker, Naming, Opened};
-use ds_domain_base::{Contract, Domain};
+use ds_domain_base::{BoxedContract, Contract, Domain};
 use ds_ledger_base::Unkept;
 use dsedge_drive::{DriveCommand, Sale};
 use dsedge_lines::Command;
@@ -60,7 +60,7 @@ pub fn filled<J: Naming, R: Wait + Abort + Drop>(
     rt: &R,
     alloc: Global,
     broker: Broker<J, R>,
-    contracts: &[Contract],
+    contracts: &[BoxedContract],
     limit: Limit,
 ) {
     let first = contract(rt, alloc, contracts, 0);
@@ -89,7 +89,7 @@ fn driven<J: Naming, R: Wait + Abort + Copy + Drop>(
     log: Opened,
     domain: Domain,
     limits: Limits,
-    contracts: Vec<Contract>,
+    contracts: Vec<BoxedContract>,
     lines: &[&str],
 ) -> Vec<u8>
     requires log { log ≡ J.log }

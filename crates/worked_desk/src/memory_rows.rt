@@ -165,7 +165,7 @@ fn whole<J: Naming, R: Wait + Abort + Copy + Drop>(
 fn plan(alloc: Global) -> Option<(Domain, Contract)> {
     let text = worked_texts::tight(alloc).ok()?;
     let (domain, mut contracts) = parse(alloc, text.as_bytes()).ok()?;
-    let contract = contracts.pop()?;
+    let contract = contracts.pop()?.into_contract();
     Some((domain, contract))
 }
 

@@ -1,7 +1,7 @@
 //! What a broker keeps once most of its contracts are retired.
 use crate::desks::{Row, contract, many, released, reserved, retired, run_over};
 use ds_desk::{Broker, Naming};
-use ds_domain_base::Contract;
+use ds_domain_base::BoxedContract;
 use std::alloc::Global;
 use std::process::Abort;
 use std::sync::Wait;
@@ -20,7 +20,7 @@ fn sell_all<J: Naming, R: Wait + Drop, W: Wait + Abort>(
     rt: &W,
     alloc: Global,
     broker: &Broker<J, R>,
-    contracts: &[Contract],
+    contracts: &[BoxedContract],
 ) {
     for place in 0..SOLD as usize {
         let sold = reserved(rt, broker, contract(rt, alloc, contracts, place));
@@ -74,7 +74,7 @@ pub fn shrunk<J: Naming, R: Wait + Abort + Drop>(
     rt: &R,
     alloc: Global,
     broker: Broker<J, R>,
-    contracts: &[Contract],
+    contracts: &[BoxedContract],
 ) {
     sell_all(rt, alloc, &broker, contracts);
     expect_little_room(rt, &broker, 200);

@@ -1,7 +1,7 @@
 use crate::desks::{Row, contract, four, full, run_over, tight};
 use ds_broker::{BrokerRefusal, Grant};
 use ds_desk::{Broker, Feed, Front, Naming};
-use ds_domain_base::Contract;
+use ds_domain_base::{BoxedContract, Contract};
 use moment_core::Moment;
 use std::alloc::Global;
 use std::process::Abort;
@@ -51,7 +51,7 @@ fn sell_both<J: Naming + Send + Sync, R: Wait + Drop + Send + Sync, W>(
     rt: &W,
     alloc: Global,
     broker: &Broker<J, R>,
-    contracts: &[Contract],
+    contracts: &[BoxedContract],
 ) -> (Front<J>, BrokerRefusal)
 where
     W: Threads + Wait + Abort + Sync,
@@ -80,7 +80,7 @@ pub fn one_of_two<J: Naming + Send + Sync, R: Threads + Wait + Abort + Drop + Se
     alloc: Global,
     broker: Broker<J, R>,
     feed: Feed<J>,
-    contracts: &[Contract],
+    contracts: &[BoxedContract],
 ) {
     let (front, refusal) = sell_both(rt, alloc, &broker, contracts);
     expect_one_seen(rt, feed.learn(&front));
@@ -241,12 +241,12 @@ fn serial_behind<J: Naming>(rt: &impl Abort, feed: Feed<J>, fronts: &[Front<J>])
 fn jobs<J: Naming>(
     rt: &impl Abort,
     alloc: Global,
-    contracts: &[Contract],
+    contracts: &[BoxedContract],
     feeds: Vec<Feed<J>>,
 ) -> Vec<Job<J>> {
     let mut jobs = Vec::new(alloc);
     for contract in contracts {
-        let sold = contract.copy(alloc).expect(rt, "memory");
+        let sold = contract.contract().copy(alloc).expect(rt, "memory");
         jobs.push(Job::Sell(sold)).expect(rt, "memory");
     }
     for feed in feeds {
@@ -294,7 +294,7 @@ fn sell_beside<J: Naming + Send + Sync, R: Wait + Drop + Send + Sync, W>(
     rt: &W,
     alloc: Global,
     broker: &Broker<J, R>,
-    contracts: &[Contract],
+    contracts: &[BoxedContract],
     feeds: Vec<Feed<J>>,
 ) -> Gathered<J>
 where
@@ -341,7 +341,7 @@ pub fn four_beside_four<J: Naming + Send + Sync, R: Threads + Wait + Abort + Dro
     alloc: Global,
     broker: Broker<J, R>,
     feeds: Vec<Feed<J>>,
-    contracts: &[Contract],
+    contracts: &[BoxedContract],
 ) {
     let gathered = sell_beside(rt, alloc, &broker, contracts, feeds);
     expect_gathered(rt, gathered);

@@ -120,7 +120,7 @@ fn sold(rt: &impl Abort, alloc: Global) -> Book {
         panic!(rt; "no book");
     };
     for contract in contracts {
-        assert!(rt; book.reserve(contract).is_ok());
+        assert!(rt; book.reserve(contract.into_contract()).is_ok());
     }
     let end = Moment::new(30_000_000_000).expect(rt, "a moment");
     let later = Moment::new(90_000_000_000_000).expect(rt, "a moment");

@@ -85,7 +85,7 @@ impl Room<'_> {
         let mut kept = Vec::new(alloc);
         for contract in contracts {
             if kept.is_empty() {
-                let Ok(()) = kept.push(Command::Reserve(contract)) else {
+                let Ok(()) = kept.push(Command::Reserve(contract.into_contract())) else {
                     return Err(LedgerFault::NoMemory);
                 };
             }

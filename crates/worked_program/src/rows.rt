@@ -8,8 +8,8 @@ use std::sync::Wait;
 use std::test::Fail;
 use std::thread::Threads;
 use worked_texts::{
-    A, B, C, LEAST_OF_POLICED, LEAST_OF_TRUSTED, LINK, POLICED, PORT, SHARE, TRUSTED, TWO_RATES, U,
-    UDP, joined, push_all,
+    A, B, C, EXCESS, EXCESS_WAY, LEAST_OF_POLICED, LEAST_OF_TRUSTED, LINK, PEAK, POLICED, PORT,
+    SHARE, TRUSTED, TWO, TWO_RATES, U, UDP, joined, push_all,
 };
 
 /// What the program left behind.
@@ -414,6 +414,11 @@ const OBJECT_OF_POLICED: &str = "{\"answer\":\"certificate\",\"bounds\":[\
     {\"all\":3003,\"contract\":\"u\",\"excess\":3003,\"green\":1502,\"hop\":0},\
     {\"all\":5003,\"contract\":\"u\",\"excess\":5003,\"green\":2502,\"hop\":1}],\"version\":1}\n";
 
+/// The object of the bounds of a trusted contract with an excess of its own.
+const OBJECT_WITH_EXCESS: &str = "{\"answer\":\"certificate\",\"bounds\":[\
+    {\"all\":4000,\"contract\":\"a\",\"excess\":1000,\"green\":3000,\"hop\":0},\
+    {\"all\":6000,\"contract\":\"a\",\"excess\":2000,\"green\":4000,\"hop\":1}],\"version\":2}\n";
+
 #[test]
 fn least_certificates_as_objects(rt: HostRuntime) -> Result<(), Fail> {
     let alloc = rt.alloc();
@@ -426,7 +431,10 @@ fn least_certificates_as_objects(rt: HostRuntime) -> Result<(), Fail> {
     )?;
     let domain = domain_text(alloc, (500_000, 1_000), 1_000_000, &AT_EDGE)?;
     let asked = ("certify domain.toml --json", domain.as_str());
-    expect_on_domain(&rt, alloc, asked, (OBJECT_OF_POLICED, "", 0))
+    expect_on_domain(&rt, alloc, asked, (OBJECT_OF_POLICED, "", 0))?;
+    let domain = joined(alloc, &[TWO, EXCESS_WAY, TRUSTED, A, SHARE, PEAK, EXCESS])?;
+    let asked = ("certify --json domain.toml", domain.as_str());
+    expect_on_domain(&rt, alloc, asked, (OBJECT_WITH_EXCESS, "", 0))
 }
 
 #[test]

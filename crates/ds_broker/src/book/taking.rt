@@ -190,7 +190,7 @@ impl Book {
         ensures unchanged { OnErr result (self.new ≡ self.old) }
     {
         let place = change.step.place();
-        let name = self.table.accepted().contracts()[place].name;
+        let name = self.table.accepted().contracts()[place].contract().name;
         self.history.reserve(1)?;
         let alloc = *self.ids.allocator();
         self.table.turn(alloc, &change.step, made)?;

@@ -7,7 +7,7 @@ use crate::rows::stays::{Passes, Shares, packets_pass, released, retired, settle
 use ds_broker::Limits;
 use ds_desk::{Broker, Desk, Feed, Naming, Opened};
 use ds_domain::parse;
-use ds_domain_base::{Contract, Domain};
+use ds_domain_base::{BoxedContract, Contract, Domain};
 use ds_timeline::Timeline;
 use meter_book::Journal;
 use meter_fabric::{Fabric, FabricLedger, Pass, Trail, ticket_parts};
@@ -48,11 +48,11 @@ pub struct Left {
 }
 
 /// The last two of some contracts.
-fn last_two(rt: &impl Abort, mut contracts: Vec<Contract>) -> (Contract, Contract) {
+fn last_two(rt: &impl Abort, mut contracts: Vec<BoxedContract>) -> (Contract, Contract) {
     let second = contracts.pop().expect(rt, "a second contract");
     let first = contracts.pop().expect(rt, "a first contract");
     drop(contracts);
-    (first, second)
+    (first.into_contract(), second.into_contract())
 }
 
 /// A domain's text with two contracts as a plan, for a table of 16 contracts and a history of 256 commands.

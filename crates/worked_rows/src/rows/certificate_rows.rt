@@ -1,6 +1,6 @@
 use crate::rows::tables::parsed;
 use ds_certificate::{Bound, Bounds, Certificate, CertificateFault, fault_line, make, read, write};
-use ds_domain::{Contract, Domain};
+use ds_domain::{BoxedContract, Domain};
 use std::alloc::Global;
 use std::process::Abort;
 use worked_texts::{A, ANYWHERE, B, LINK, METER, PORT, SHARE, TRUSTED};
@@ -56,7 +56,7 @@ static BOUNDS_ABOVE_THEIR_RANGE: [&str; 3] = [
 fn expect_fault(
     rt: &impl Abort,
     alloc: Global,
-    contracts: &[Contract],
+    contracts: &[BoxedContract],
     text: &str,
     wanted: CertificateFault,
 ) {
@@ -68,7 +68,7 @@ fn expect_fault(
 fn expect_each(
     rt: &impl Abort,
     alloc: Global,
-    contracts: &[Contract],
+    contracts: &[BoxedContract],
     (texts, wanted): (&[&str], CertificateFault),
 ) {
     for text in texts {
@@ -77,7 +77,7 @@ fn expect_each(
 }
 
 /// Expects the faults of texts that are no certificate of some contracts.
-fn expect_faults(rt: &impl Abort, alloc: Global, contracts: &[Contract]) {
+fn expect_faults(rt: &impl Abort, alloc: Global, contracts: &[BoxedContract]) {
     let lines = (
         LINES_THAT_ARE_NONE_OF_A_CERTIFICATE.as_slice(),
         CertificateFault::Text,
@@ -126,7 +126,7 @@ static FAULTY_LINES: [(&str, usize); 8] = [
 ];
 
 /// Expects of each text which line is at fault.
-fn expect_lines(rt: &impl Abort, contracts: &[Contract]) {
+fn expect_lines(rt: &impl Abort, contracts: &[BoxedContract]) {
     for (text, line) in &FAULTY_LINES {
         assert_eq!(rt;
             (text, fault_line(text.as_bytes(), contracts)),
@@ -149,7 +149,7 @@ fn the_first_line_that_is_at_fault(rt: HostRuntime) {
 fn rewritten(
     alloc: Global,
     text: &str,
-    contracts: &[Contract],
+    contracts: &[BoxedContract],
 ) -> Result<Vec<u8>, CertificateFault> {
     let certificate = read(alloc, text.as_bytes(), contracts)?;
     write(alloc, &certificate, contracts)
@@ -178,7 +178,7 @@ static REWRITTEN: [(&str, &str, &str); 3] = [
 fn expect_rewritten(
     rt: &impl Abort,
     alloc: Global,
-    contracts: &[Contract],
+    contracts: &[BoxedContract],
     (name, text, wanted): &(&str, &str, &str),
 ) {
     let again = rewritten(alloc, text, contracts).expect(rt, name);
@@ -186,7 +186,7 @@ fn expect_rewritten(
 }
 
 /// Expects of each row what its certificate is written as.
-fn expect_all_rewritten(rt: &impl Abort, alloc: Global, contracts: &[Contract]) {
+fn expect_all_rewritten(rt: &impl Abort, alloc: Global, contracts: &[BoxedContract]) {
     for row in &REWRITTEN {
         expect_rewritten(rt, alloc, contracts, row);
     }
@@ -229,7 +229,7 @@ fn short(rt: &impl Abort, alloc: Global) -> Certificate {
 }
 
 /// Expects that this certificate is not written for some contracts.
-fn expect_unwritten(rt: &impl Abort, alloc: Global, contracts: &[Contract]) {
+fn expect_unwritten(rt: &impl Abort, alloc: Global, contracts: &[BoxedContract]) {
     let refused = write(alloc, &short(rt, alloc), contracts).err();
     assert_eq!(rt; refused, Some(CertificateFault::Shape));
 }

@@ -1,8 +1,8 @@
 use crate::rows::tables::{parsed, text_of};
 use af_marker::Dscp;
 use ds_domain::{
-    Contract, Delay, Domain, DomainFault, Link, Meter, Name, Peak, Profile, SoundParameters, Terms,
-    Version, fits, parse,
+    BoxedContract, Contract, Delay, Domain, DomainFault, Link, Meter, Name, Peak, Profile,
+    SoundParameters, Terms, Version, fits, parse,
 };
 use flow_classifier::{Ipv4Prefix, Ipv6Prefix, Prefix};
 use meter_book_base::Parameters;
@@ -56,10 +56,10 @@ fn expect_second(rt: &impl Abort, second: &Contract) {
 }
 
 /// Expects the domain of three trusted contracts.
-fn expect_three(rt: &impl Abort, domain: &Domain, contracts: &[Contract]) {
+fn expect_three(rt: &impl Abort, domain: &Domain, contracts: &[BoxedContract]) {
     assert!(rt; sizes_of(domain) == (1, 1, 1));
     assert!(rt; contracts.len() == 3);
-    expect_second(rt, &contracts[1]);
+    expect_second(rt, contracts[1].contract());
 }
 
 const THREE_TRUSTED: &[&str] = &[
@@ -120,10 +120,10 @@ fn policed(rt: &impl Abort) -> Terms {
 }
 
 /// Expects the contract `u` alone, for UDP.
-fn expect_policed(rt: &impl Abort, contracts: &[Contract]) {
+fn expect_policed(rt: &impl Abort, contracts: &[BoxedContract]) {
     assert!(rt; contracts.len() == 1);
-    assert!(rt; contracts[0].terms == policed(rt));
-    assert!(rt; contracts[0].rule.protocol == Some(17));
+    assert!(rt; contracts[0].contract().terms == policed(rt));
+    assert!(rt; contracts[0].contract().rule.protocol == Some(17));
 }
 
 const ONE_POLICED: &[&str] = &[METER, PORT, LINK, POLICED, U, TWO_RATES, UDP];
@@ -145,7 +145,7 @@ fn the_domain_of_one_policed_contract(rt: HostRuntime) {
 fn expect_peak(
     rt: &impl Abort,
     domain: &Domain,
-    contracts: &[Contract],
+    contracts: &[BoxedContract],
     version: Version,
     excess: Option<Profile>,
 ) {
@@ -153,7 +153,7 @@ fn expect_peak(
     let peak = Some(Peak { profile, excess });
     assert!(rt; domain.version() == version);
     assert!(rt; contracts.len() == 1);
-    assert!(rt; contracts[0].terms == share(rt, peak));
+    assert!(rt; contracts[0].contract().terms == share(rt, peak));
 }
 
 /// Texts of a contract with a peak and no excess, and their versions.
@@ -188,7 +188,7 @@ fn copied(rt: &impl Abort, alloc: Global, domain: &Domain) -> Domain {
 }
 
 /// Expects of the copy of a domain the second version, and of a contract the peak and the excess.
-fn expect_excess(rt: &impl Abort, alloc: Global, domain: &Domain, contracts: &[Contract]) {
+fn expect_excess(rt: &impl Abort, alloc: Global, domain: &Domain, contracts: &[BoxedContract]) {
     let excess = Some(profile(rt, 8_000_000, 1000));
     let again = copied(rt, alloc, domain);
     expect_peak(rt, &again, contracts, Version::Two, excess);
@@ -263,7 +263,7 @@ fn expect_over_two(rt: &impl Abort, alloc: Global, domain: &Domain, contract: &C
 fn expect_on_way(rt: &impl Abort, alloc: Global) {
     let said = parsed(rt, alloc, OVER_TWO);
     let contract = said.contracts.first().expect(rt, "a contract");
-    expect_over_two(rt, alloc, &said.domain, contract);
+    expect_over_two(rt, alloc, &said.domain, contract.contract());
 }
 
 #[test]
@@ -753,7 +753,7 @@ fn expect_form(rt: &impl Abort, alloc: Global, (form, address, length): &(&str, 
     );
     let prefix = Ipv6Prefix::new(*address, *length).expect(rt, "a prefix");
     let contract = said.contracts.first().expect(rt, "a contract");
-    assert_eq!(rt; contract.rule.source, Some(Prefix::V6(prefix)));
+    assert_eq!(rt; contract.contract().rule.source, Some(Prefix::V6(prefix)));
     assert!(rt; said.domain.version() == Version::Three);
 }
 
@@ -773,7 +773,7 @@ fn expect_as_before(rt: &impl Abort, alloc: Global) {
     );
     let prefix = Ipv4Prefix::new(0x0a00_0000, 24).expect(rt, "a prefix");
     let contract = said.contracts.first().expect(rt, "a contract");
-    assert!(rt; contract.rule.source == Some(Prefix::V4(prefix)));
+    assert!(rt; contract.contract().rule.source == Some(Prefix::V4(prefix)));
     let excess = Some(profile(rt, 8_000_000, 1000));
     expect_peak(
         rt,

@@ -1,7 +1,7 @@
 use crate::rows::checker_rows::expect;
 use crate::rows::tables::{parsed, text_of};
 use ds_certificate::{Certificate, read};
-use ds_domain::Contract;
+use ds_domain::BoxedContract;
 use dsedge_texts::certify;
 use std::alloc::{AllocError, Global};
 use std::process::Abort;
@@ -75,7 +75,7 @@ fn excesses(alloc: Global, certificate: &Certificate) -> Result<Vec<u64>, AllocE
 }
 
 /// Expects the excess of each bound of a short certificate of a contract.
-fn expect_excesses(rt: &impl Abort, alloc: Global, contracts: &[Contract]) {
+fn expect_excesses(rt: &impl Abort, alloc: Global, contracts: &[BoxedContract]) {
     let text = b"dscert 1\na 0 3000 4000\na 1 4000 6000\n";
     let certificate = read(alloc, text, contracts).expect(rt, "a certificate");
     let excesses = excesses(alloc, &certificate).expect(rt, "memory");

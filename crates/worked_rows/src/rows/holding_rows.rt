@@ -3,7 +3,7 @@ ghost use Rattle.std.specs.Prelude.{length, ◌<◌};
 use crate::rows::tables::{Said, parsed};
 use ds_certificate::{Bound, Certificate, bounds_of};
 use ds_checker::{Accepted, Candidate, Refusal, check};
-use ds_domain::{Contract, Domain, Name};
+use ds_domain::{BoxedContract, Contract, Domain, Name};
 use std::alloc::Global;
 use std::process::Abort;
 use worked_texts::{A, B, LINK, LOW_METER, PORT, SHARE, TRUSTED};
@@ -96,10 +96,10 @@ fn expect_room_for_one(rt: &impl Abort, alloc: Global, one: &Accepted, other: &C
 }
 
 /// Expects that an empty table takes the first of two contracts, and what then comes of the other.
-fn expect_first(rt: &impl Abort, alloc: Global, table: &Accepted, contracts: &[Contract]) {
+fn expect_first(rt: &impl Abort, alloc: Global, table: &Accepted, contracts: &[BoxedContract]) {
     assert_eq!(rt; contracts.len(), 2);
-    let one = larger(rt, alloc, table, &contracts[0]).expect(rt, "room for one");
-    expect_room_for_one(rt, alloc, &one, &contracts[1]);
+    let one = larger(rt, alloc, table, contracts[0].contract()).expect(rt, "room for one");
+    expect_room_for_one(rt, alloc, &one, contracts[1].contract());
 }
 
 /// The meter has room for the burst of one of two contracts.

@@ -1,4 +1,4 @@
-use ds_domain::{Contract, Domain, parse};
+use ds_domain::{BoxedContract, Domain, parse};
 use std::alloc::Global;
 use std::process::Abort;
 use worked_texts::joined;
@@ -9,7 +9,7 @@ pub struct Said {
     /// Its domain.
     pub domain: Domain,
     /// Its contracts.
-    pub contracts: Vec<Contract>,
+    pub contracts: Vec<BoxedContract>,
 }
 
 /// The parts of a text, one behind the other.

@@ -11,7 +11,7 @@ loop-id-preserved c =
     let more = Zip-more c.loop-id.id-iterator c.next.new.self c.next.result _ c.in-Some.is c.next.ensures.steps in
     let told = c.loop-id.entries.items in
     let rest = told_of (iter_rest (zip_first c.next.new.self)) (iter_rest (zip_second c.next.new.self)) in
-    ap (λ xs. xs ++ rest) c.in_ok-push.ensures.items ∙ append_assoc told (c.entry_of.result ∷ []) rest ∙ ap (λ x. told ++ x ∷ rest) c.entry_of.ensures
+    ap (λ xs. xs ++ rest) c.in_ok-push.ensures.items ∙ append_assoc told (c.entry_of-entry.result ∷ []) rest ∙ ap (λ x. told ++ x ∷ rest) c.entry_of-entry.ensures
     ∙ ap (λ xs. told ++ xs) (sym (told-next _ _ c.in-Some.id.now _ _ c.in-Some.contract.now more.0 more.1)) ∙ c.loop-id.invariant
 
 pub returns : goal.returns

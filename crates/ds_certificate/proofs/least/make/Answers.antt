@@ -8,17 +8,17 @@ returns-in-Err-clause-refused c =
     inr (
       refl,
       sym c.loop-contract.invariant.fitting
-          ∙ none_fitting c.args.domain.now c.args.contracts.now c.loop-contract.contract-index c.contract-item.result c.loop-contract-test.true c.contract-item.is (ap is_none c.in-Err.ensures),
+          ∙ none_fitting c.args.domain.now c.args.contracts.now c.loop-contract.contract-index c.contract-item.result c.loop-contract-test.true c.contract-item.is (ap is_none (rw c.contract-contract.ensures at c.in-Err.ensures)),
     )
 
 pub loop-contract-preserved : goal.loop-contract-preserved
 loop-contract-preserved c = record {
-  fitting = one_fitting c.args.domain.now c.args.contracts.now c.loop-contract.contract-index c.contract-item.result c.loop-contract-test.true c.contract-item.is (ap is_none c.in-Ok.ensures.0)
+  fitting = one_fitting c.args.domain.now c.args.contracts.now c.loop-contract.contract-index c.contract-item.result c.loop-contract-test.true c.contract-item.is (ap is_none (rw c.contract-contract.ensures at c.in-Ok.ensures.0))
       ∙ c.loop-contract.invariant.fitting;
   value = λ kept.
       let both = kept_parts c.loop-contract.is_lacking c.add_row.result kept in
       rows_kept c.args.domain.now c.args.contracts.now c.loop-contract.rows.items c.add_row.new.rows.items c.loop-contract.contract-index c.contract-item.result c.loop-contract-test.true
-      c.contract-item.is (c.add_row.ensures both.1) (c.loop-contract.invariant.value both.0);
+      c.contract-item.is (rw c.contract-contract.ensures at (c.add_row.ensures both.1)) (c.loop-contract.invariant.value both.0);
 }
 
 pub returns-then-is_lacking-clause-refused : goal.returns-then-is_lacking-clause-refused

@@ -9,13 +9,13 @@ overflow_add-lines c =
       arith,
       rows_said-count c.args.form c.args.contracts.now c.args.text.now,
       said_more c.args.form c.args.contracts.now c.loop-contract.contract-index c.contract-item.result (lines_of c.loop-contract.rest.now) c.loop-contract.lines c.bounds_said-said.result.0 _
-          c.loop-contract-test.true c.contract-item.is c.bounds_said-said.ensures.lines c.loop-contract.invariant,
+          c.loop-contract-test.true c.contract-item.is (rw c.contract-contract.ensures at c.bounds_said-said.ensures.lines) c.loop-contract.invariant,
     )
 
 pub returns-then-said-hops-clause-lines : goal.returns-then-said-hops-clause-lines
 returns-then-said-hops-clause-lines c =
     said_last c.args.form c.args.contracts.now c.loop-contract.contract-index c.contract-item.result (lines_of c.loop-contract.rest.now) c.loop-contract.lines c.bounds_said-said.result.0 _ _
-    c.loop-contract-test.true c.contract-item.is c.bounds_said-said.ensures.lines c.loop-contract.invariant c.hops.ensures.value c.if-said-hops.true
+    c.loop-contract-test.true c.contract-item.is (rw c.contract-contract.ensures at c.bounds_said-said.ensures.lines) c.loop-contract.invariant (rw c.contract-contract.ensures at c.hops.ensures.value) c.if-said-hops.true
 
 pub returns-then-said-hops-clause-within : goal.returns-then-said-hops-clause-within
 returns-then-said-hops-clause-within c =
@@ -23,14 +23,14 @@ returns-then-said-hops-clause-within c =
       arith,
       rows_said-count c.args.form c.args.contracts.now c.args.text.now,
       said_more c.args.form c.args.contracts.now c.loop-contract.contract-index c.contract-item.result (lines_of c.loop-contract.rest.now) c.loop-contract.lines c.bounds_said-said.result.0 _
-          c.loop-contract-test.true c.contract-item.is c.bounds_said-said.ensures.lines c.loop-contract.invariant,
+          c.loop-contract-test.true c.contract-item.is (rw c.contract-contract.ensures at c.bounds_said-said.ensures.lines) c.loop-contract.invariant,
     )
 
 pub loop-contract-preserved : goal.loop-contract-preserved
 loop-contract-preserved c =
     said_on c.args.form c.args.contracts.now c.loop-contract.contract-index c.contract-item.result (lines_of c.loop-contract.rest.now) (lines_of c.bounds_said-said.result.1.now) c.loop-contract.lines
-    c.bounds_said-said.result.0 _ _ c.loop-contract-test.true c.contract-item.is c.bounds_said-said.ensures.lines c.bounds_said-said.ensures.rest c.loop-contract.invariant
-    c.hops.ensures.value c.if-said-hops.false
+    c.bounds_said-said.result.0 _ _ c.loop-contract-test.true c.contract-item.is (rw c.contract-contract.ensures at c.bounds_said-said.ensures.lines) c.bounds_said-said.ensures.rest c.loop-contract.invariant
+    (rw c.contract-contract.ensures at c.hops.ensures.value) c.if-said-hops.false
 
 pub returns-clause-lines : goal.returns-clause-lines
 returns-clause-lines c =

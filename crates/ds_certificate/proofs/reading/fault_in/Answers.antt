@@ -7,12 +7,12 @@ pub returns-in-Err : goal.returns-in-Err
 returns-in-Err c =
     fault-bad _ _ c.in-Err.fault
     (rows_in-bad c.args.form [] c.args.contracts.now c.loop-contract.contract-index c.contract-item.result (lines_of c.loop-contract.rest.now) c.in-Err.fault
-    c.loop-contract-test.true c.contract-item.is c.in-Err.ensures.refused) c.loop-contract.invariant
+    c.loop-contract-test.true c.contract-item.is (rw c.contract.ensures at c.in-Err.ensures.refused)) c.loop-contract.invariant
 
 pub loop-contract-preserved : goal.loop-contract-preserved
 loop-contract-preserved c =
     fault-on c.args.form c.args.contracts.now c.loop-contract.contract-index c.contract-item.result (lines_of c.loop-contract.rest.now) (lines_of c.in-Ok.later.now) _
-    c.loop-contract-test.true c.contract-item.is c.in-Ok.ensures.behind c.loop-contract.invariant
+    c.loop-contract-test.true c.contract-item.is (rw c.contract.ensures at c.in-Ok.ensures.behind) c.loop-contract.invariant
 
 pub returns : goal.returns
 returns c =

@@ -9,13 +9,13 @@ returns-in-Err-clause-refused c = elim c.in-Err.ensures.refused [
   | inl memory ↦ inl memory
   | inr bad ↦ inr (sym c.loop-contract.invariant
       ∙ rows_in-bad c.args.form c.loop-contract.rows.items c.args.contracts.now c.loop-contract.contract-index c.contract-item.result (lines_of c.loop-contract.rest.now) c.in-Err.fault
-      c.loop-contract-test.true c.contract-item.is bad)
+      c.loop-contract-test.true c.contract-item.is (rw c.contract.ensures at bad))
 ]
 
 pub loop-contract-preserved : goal.loop-contract-preserved
 loop-contract-preserved c =
     sym (rows_in-contract c.args.form c.loop-contract.rows.items c.push.new.self.items c.args.contracts.now c.loop-contract.contract-index c.contract-item.result (lines_of c.loop-contract.rest.now)
-    (lines_of c.in-Ok.later.now) c.in-Ok.bounds c.loop-contract-test.true c.contract-item.is c.in-Ok.ensures.bounds c.in_ok-push-in-Ok.ensures.items)
+    (lines_of c.in-Ok.later.now) c.in-Ok.bounds c.loop-contract-test.true c.contract-item.is (rw c.contract.ensures at c.in-Ok.ensures.bounds) c.in_ok-push-in-Ok.ensures.items)
     ∙ c.loop-contract.invariant
 
 pub returns-in-None-clause-certificate : goal.returns-in-None-clause-certificate

@@ -29,9 +29,9 @@ loop-contract-preserved c =
     let bounds = c.in-Some.bounds.now in
     let shaped = shape-behind _ _ contract _ _ bounds more.0 more.1 c.loop-contract.invariant.shape in
     record {
-      lines = rows-more c.of-form.result c.loop-contract.text.items c.push_bounds.new.text.items _ _ contract _ _ bounds _ more.0 more.1 c.in_ok-push_bounds.ensures.lines c.loop-contract.invariant.lines;
+      lines = rows-more c.of-form.result c.loop-contract.text.items c.push_bounds.new.text.items _ _ contract _ _ bounds _ more.0 more.1 (rw c.contract.ensures at c.in_ok-push_bounds.ensures.lines) c.loop-contract.invariant.lines;
       shape = shaped.1;
-      reads = back-more c.of-form.result _ _ _ contract _ _ bounds _ more.0 more.1 shaped.0 c.in_ok-push_bounds.ensures.reads c.loop-contract.invariant.reads;
+      reads = back-more c.of-form.result _ _ _ contract _ _ bounds _ more.0 more.1 shaped.0 (rw c.contract.ensures at c.in_ok-push_bounds.ensures.reads) c.loop-contract.invariant.reads;
     }
 
 pub returns-clause-text : goal.returns-clause-text

@@ -27,7 +27,7 @@ returns-in_default-shaped-clause-refused c =
     let rows = c.bounds-rows.result.now in
     let row = c.in-Some.ensures.lookup in
     let step = misfit-step c.args.candidate.now.domain contracts rows i c.index-contracts-number.result c.in-Some.bounds.now false c.loop-number-test.true
-    c.index-contracts-number.is row.3.0 row.1 (sym (ap is_some c.in_default-shaped.is) ∙ (rw c.hops-hops.ensures at c.shaped.ensures.some)) in
+    c.index-contracts-number.is row.3.0 row.1 (sym (ap is_some c.in_default-shaped.is) ∙ (rw (c.hops-hops.ensures, c.contract-contract.ensures) at c.shaped.ensures.some)) in
     inr (shape_found (table_of c.args.candidate.now) contracts rows i (search rules) (search rules) (sym c.loop-number.invariant.shape ∙ step))
 
 pub loop-number-preserved : goal.loop-number-preserved
@@ -40,7 +40,7 @@ loop-number-preserved c =
     let bounds = c.in-Some.bounds.now in
     let row = c.in-Some.ensures.lookup in
     let step = misfit-step d contracts rows i contract bounds true c.loop-number-test.true
-    c.index-contracts-number.is row.3.0 row.1 (sym (ap is_some c.in-Some-shaped.is) ∙ (rw c.hops-hops.ensures at c.shaped.ensures.some)) in
+    c.index-contracts-number.is row.3.0 row.1 (sym (ap is_some c.in-Some-shaped.is) ∙ (rw (c.hops-hops.ensures, c.contract-contract.ensures) at c.shaped.ensures.some)) in
     let refusal = first_failed (tests_along i (source_of d contract) (jitters_of d contract) c.hops-hops.result.now) in
     record {
       shape = sym step ∙ c.loop-number.invariant.shape;
@@ -50,7 +50,7 @@ loop-number-preserved c =
       routes = λ kept.
           let both = kept_parts c.loop-number.is_lacking c.keep.result kept in
           one-mapped (route_of d) c.loop-number.routes.items c.keep.new.routes.items contracts contract c.in-Some-shaped.route i c.loop-number-test.true
-          c.in-Some-shaped.ensures.route c.index-contracts-number.is (c.keep.ensures both.1) (c.loop-number.invariant.routes both.0);
+          (rw c.contract-contract.ensures at c.in-Some-shaped.ensures.route) c.index-contracts-number.is (c.keep.ensures both.1) (c.loop-number.invariant.routes both.0);
     }
 
 pub returns-then-rows-contracts-clause-refused : goal.returns-then-rows-contracts-clause-refused

@@ -19,7 +19,7 @@ returns c =
     (subst (λ (d : Domain). IsDistinct bytes_eq (keys_of d.meters)) c.domain-domain.ensures.value c.meters-meters.ensures.kept.meters_differ)
     own (c.index-bounds-place.is ∙ ap (λ list. get_or list place c.index-bounds-place.result) (c.bounds.ensures ∙ c.certificate.ensures.value))
     (c.route-route.ensures contract (slice_get_read t.contracts (length t.contracts) place contract refl c.requires own)) c.legs.ensures.kept
-    (c.along.ensures.value ∙ ap (λ (d : Domain). source_on d route contract.terms) c.domain-domain.ensures.value) c.has_peak.ensures c.legs.ensures.value
+    (rw c.contract-contract.ensures at c.along.ensures.value ∙ ap (λ (d : Domain). source_on d route contract.terms) c.domain-domain.ensures.value) (rw c.contract-contract.ensures at c.has_peak.ensures) c.legs.ensures.value
     (c.split_at.ensures.back ∙ ap (drop 1) c.hops.ensures)
 
 pub bounds-bounds-place : goal.bounds-bounds-place

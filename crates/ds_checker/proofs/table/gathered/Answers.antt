@@ -43,7 +43,7 @@ loop-number-preserved c =
     record {
       kept = kept-next d contracts rows i contract row c.hops.result.now c.loop-number.sums.items c.as_mut_slice.result.now c.add_on_route.new.sums _ c.loop-number.sums.len
           c.loop-number-test.true inside c.index-contracts-number.is c.index-rows-number.is c.loop-number.invariant.kept c.hops.ensures c.as_mut_slice.ensures.value
-          c.as_mut_slice.ensures.len c.add_on_route.ensures.value c.add_on_route.ensures.small refl;
+          c.as_mut_slice.ensures.len (rw c.contract.ensures at c.add_on_route.ensures.value) (rw c.contract.ensures at c.add_on_route.ensures.small) refl;
       shaped = (shaped_behind d _ _ contract _ _ row (item_ahead contracts i contract c.loop-number-test.true c.index-contracts-number.is)
           (item_ahead rows i row inside c.index-rows-number.is) c.loop-number.invariant.shaped).1;
     }

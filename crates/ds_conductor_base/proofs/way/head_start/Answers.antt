@@ -1,4 +1,4 @@
-use Rattle.std.proofs.Common.{◌+◌, sym, subst, arith}
+use Rattle.std.proofs.Common.{◌≡◌, ◌+◌, get_or, sym, subst, arith}
 use Rattle.meter_fabric_base.proofs.PathLaws.{read_contract}
 use Rattle.ds_conductor_base.proofs.HeadStartLaws.{AreAhead, ahead_all, ahead_before, ahead_last, ahead_more, all_ahead}
 use Rattle.ds_conductor_base.proofs.way.head_start.Goals as goal
@@ -13,9 +13,9 @@ loop-place-preserved c =
     let contracts = c.flows_of-contracts.result.now in
     let port = c.args.port in
     let count = c.loop-place.place in
-    let here = c.index-contracts-place.result in
+    let here = c.contract.result.now in
     let inside = c.loop-place-test.true in
-    let is = c.index-contracts-place.is in
+    let is : here ≡ get_or contracts count here = rw c.contract.ensures c.index-contracts-place.is in
     let own = c.route-route.ensures here (read_contract c.args.accepted.now contracts count here c.flows_of-contracts.ensures inside is).1 in
     record {
       holds = subst (λ least. AreAhead d contracts port (count + 1) least) (sym c.lesser-least.ensures)

@@ -1,4 +1,4 @@
-use Rattle.std.proofs.Common.{◌≡◌, ap, map, sym, take, ◌∙◌, arith, take_all}
+use Rattle.std.proofs.Common.{◌≡◌, ap, get_or, map, sym, take, ◌∙◌, arith, take_all}
 use Rattle.ds_domain_base.specs.Domains.{Domain}
 use Rattle.ds_certificate.specs.Sources.{source_on}
 use Rattle.meter_fabric_base.specs.Grounds.{most_flows}
@@ -16,10 +16,11 @@ pub loop-place-preserved : goal.loop-place-preserved
 loop-place-preserved c =
     let t = c.args.accepted.now in
     let contracts = c.flows_of-contracts.result.now in
-    let here = c.index-contracts-place.result in
+    let here = c.contract-contract.result.now in
+    let is : here ≡ get_or contracts c.loop-place.place here = rw c.contract-contract.ensures c.index-contracts-place.is in
     let route = c.route.result.now in
-    let own = c.route.ensures here (read_contract t contracts c.loop-place.place here c.flows_of-contracts.ensures c.loop-place-test.true c.index-contracts-place.is).1 in
-    silent_more t.domain contracts c.loop-place.senders.items _ c.loop-place.place here route c.along-source.result c.buckets_of.result c.loop-place-test.true c.index-contracts-place.is
+    let own = c.route.ensures here (read_contract t contracts c.loop-place.place here c.flows_of-contracts.ensures c.loop-place-test.true is).1 in
+    silent_more t.domain contracts c.loop-place.senders.items _ c.loop-place.place here route c.along-source.result c.buckets_of.result c.loop-place-test.true is
     own (c.along-source.ensures.value ∙ ap (λ (d : Domain). source_on d route here.terms) c.domain.ensures.value) c.buckets_of.ensures c.in_ok-push.ensures.items c.loop-place.invariant
 
 pub returns : goal.returns

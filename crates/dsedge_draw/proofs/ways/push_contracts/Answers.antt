@@ -8,9 +8,9 @@ pub loop-number-preserved : goal.loop-number-preserved
 loop-number-preserved c =
     let contracts = c.args.contracts.now in
     let number = c.loop-number.number in
-    ways_pieces c.loop-number.text.items (source_text c.colour_of-colour.result.now c.index-contracts-number.result) (way_text c.colour_of-colour.result.now c.index-contracts-number.result)
+    ways_pieces c.loop-number.text.items (source_text c.colour_of-colour.result.now c.contract-contract.result.now) (way_text c.colour_of-colour.result.now c.contract-contract.result.now)
     c.push_source.new.text.items c.push_way.new.text.items _ c.in_ok-push_source.ensures c.in_ok-push_way.ensures
-    ∙ ways_next c.loop-number.text.items c.colour_of-colour.result.now number contracts c.index-contracts-number.result c.loop-number-test.true c.index-contracts-number.is c.colour_of-colour.ensures
+    ∙ ways_next c.loop-number.text.items c.colour_of-colour.result.now number contracts c.contract-contract.result.now c.loop-number-test.true (rw c.contract-contract.ensures c.index-contracts-number.is) c.colour_of-colour.ensures
     ∙ c.loop-number.invariant
 
 pub returns : goal.returns

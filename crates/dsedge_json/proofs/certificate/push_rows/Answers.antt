@@ -11,7 +11,7 @@ loop-contract-preserved c =
     let bounds = c.in-Some.bounds.now in
     record {
       tokens = rows-more c.loop-contract.out.tokens c.push_bounds.new.out.tokens _ _ contract _ _ bounds _ more.0 more.1
-          (c.in_ok-push_bounds.ensures.tokens ∙ ap (λ name. c.loop-contract.out.tokens ++ tokens_of (bounds_from name 0 bounds)) c.name_text.ensures)
+          (c.in_ok-push_bounds.ensures.tokens ∙ ap (λ name. c.loop-contract.out.tokens ++ tokens_of (bounds_from name 0 bounds)) (rw c.contract.ensures at c.name_text.ensures))
           c.loop-contract.invariant.tokens;
       before = c.in_ok-push_bounds.ensures.before ∙ c.loop-contract.invariant.before;
     }

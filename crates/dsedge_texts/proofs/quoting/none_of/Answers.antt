@@ -7,5 +7,5 @@ use Rattle.dsedge_texts.proofs.quoting.none_of.Goals as goal
 
 pub none_with-requires : goal.none_with-requires
 none_with-requires c =
-    ap (list_all (fits c.args.domain)) c.in-Ok.ensures.items
+    ap (list_all (fits c.args.domain)) (rw c.set_terms.ensures at c.in-Ok.ensures.items)
     ∙ all_inserted (fits c.args.domain) c.args.others.items c.args.place (on_terms c.args.terms c.args.contract) c.requires.fit c.requires.own c.requires.place

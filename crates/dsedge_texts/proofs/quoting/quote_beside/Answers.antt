@@ -12,7 +12,7 @@ returns-in-Ok-clause-ok c =
     let unrefused : refusal_of (with_least c.args.domain c.args.others.items) ≡ None = search rules in
     let same : c.in-Ok.accepted ≡ with_least c.args.domain c.args.others.items = search rules in
     let e = quote-over c.args.domain c.args.others.items c.args.place c.args.contract c.args.field c.in-Some.terms c.in-Ok.accepted is_terms unrefused same in
-    said-one c.quote_over.result _ _ e c.quote_over.ensures
+    said-one c.quote_over.result _ _ e (rw c.contract-in-Ok.ensures at c.quote_over.ensures)
 
 pub returns-in-Err-Some-clause-ok : goal.returns-in-Err-Some-clause-ok
 returns-in-Err-Some-clause-ok c =

@@ -10,12 +10,12 @@ loop-place-preserved c =
     elim c.if-eq.branch [
       | then-eq+in_ok-push w ↦
           rw (w.rules-is, w.in_ok-push.ensures.items)
-          (taken_next c.args.port c.loop-place.rules.items heeded c.loop-place.place c.index-heeded-place.result
-          c.loop-place-test.true c.index-heeded-place.is (sym c.eq.ensures ∙ w.if-eq.true) c.loop-place.invariant)
+          (taken_next c.args.port c.loop-place.rules.items heeded c.loop-place.place c.contract-contract.result.now
+          c.loop-place-test.true (rw c.contract-contract.ensures c.index-heeded-place.is) (sym c.eq.ensures ∙ w.if-eq.true) c.loop-place.invariant)
       | else-eq w ↦
           rw (w.rules-is)
-          (taken_same c.args.port c.loop-place.rules.items heeded c.loop-place.place c.index-heeded-place.result
-          c.loop-place-test.true c.index-heeded-place.is (sym c.eq.ensures ∙ w.if-eq.false) c.loop-place.invariant)
+          (taken_same c.args.port c.loop-place.rules.items heeded c.loop-place.place c.contract-contract.result.now
+          c.loop-place-test.true (rw c.contract-contract.ensures c.index-heeded-place.is) (sym c.eq.ensures ∙ w.if-eq.false) c.loop-place.invariant)
     ]
 
 pub returns : goal.returns

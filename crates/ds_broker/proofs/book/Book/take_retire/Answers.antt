@@ -1,4 +1,4 @@
-use Rattle.std.proofs.Common.{◌≡◌, Some, arith, get_or, refl, sym, ap, subst, ◌∙◌, remove, slice_get}
+use Rattle.std.proofs.Common.{◌≡◌, Some, arith, refl, sym, ap, subst, ◌∙◌, remove, slice_get}
 use Rattle.ds_broker.specs.Books.{held_of}
 use Rattle.ds_broker.specs.Changes.{IsChange, place_in}
 use Rattle.ds_broker.specs.Histories.{Holding}
@@ -17,9 +17,9 @@ invariant_of-self-2 c =
     let is = subst (λ b. IsChange b (Retire c.args.id c.args.moment) c.args.change.now) (sym c.self.view_is) c.requires.change in
     let place = c.place-place.ensures in
     let contracts = c.contracts.ensures.value ∙ ap (λ t. t.contracts) (c.accepted.ensures.value ∙ c.self.invariant.table) in
-    let own = get_or c.contracts.result.now c.place-place.result c.index-contracts-place.result in
+    let own = c.contract.result.now in
     let named : (h : Holding) → slice_get (held_of (book_of c.self.inside)) (place_in c.args.change.now.step) ≡ Some h → own.name ≡ h.contract.name =
-    λ h at. ap (λ k. k.name) (contract-placed (book_of c.self.inside) c.contracts.result.now contracts c.place-place.result h
+    λ h at. ap (λ k. k.name) (c.contract.ensures ∙ c.index-contracts-place.is ∙ contract-placed (book_of c.self.inside) c.contracts.result.now contracts c.place-place.result h
     c.index-contracts-place.result (ap (slice_get (held_of (book_of c.self.inside))) place ∙ at)) in
     kept-retired c.self.inside _ c.args.id c.args.moment c.args.change.now own.name c.self.invariant is named
     c.in_ok-turn.ensures.changed c.in_ok-turn.ensures.acceptable

@@ -17,8 +17,8 @@ add_on_route-requires-clause-shape c =
     let number : c.len.result ≡ length c.self.inside.contracts.items = search rules in
     let row = last-row c.deref-domain.result.now c.self.inside.contracts.items c.self.inside.certificate c.bounds.result.now c.self.inside.sums.items c.args.row c.index-bounds-len.result c.len.result
     (sound-of c.deref-domain.result.now (arc_value c.self.inside.domain) c.self.inside.contracts.items c.self.inside.certificate c.self.inside.sums.items c.deref-domain.ensures c.self.invariant.sound) number (c.bounds.ensures ∙ c.in-Ok.ensures.pushed) c.index-bounds-len.is in
-    shape-more c.deref-domain.result.now c.self.inside.contracts.items c.self.inside.certificate c.self.inside.sums.items c.args.self.now c.args.contract c.args.row c.hops.result.now (sound-of c.deref-domain.result.now (arc_value c.self.inside.domain) c.self.inside.contracts.items c.self.inside.certificate c.self.inside.sums.items c.deref-domain.ensures c.self.invariant.sound)
-    (self-of c.deref-domain.result.now (arc_value c.self.inside.domain) c.self.inside.contracts.items c.self.inside.certificate c.args.self.now c.deref-domain.ensures c.self.view_is) c.requires.unrefused (c.hops.ensures ∙ row)
+    rw c.contract-2.ensures (shape-more c.deref-domain.result.now c.self.inside.contracts.items c.self.inside.certificate c.self.inside.sums.items c.args.self.now c.args.contract c.args.row c.hops.result.now (sound-of c.deref-domain.result.now (arc_value c.self.inside.domain) c.self.inside.contracts.items c.self.inside.certificate c.self.inside.sums.items c.deref-domain.ensures c.self.invariant.sound)
+    (self-of c.deref-domain.result.now (arc_value c.self.inside.domain) c.self.inside.contracts.items c.self.inside.certificate c.args.self.now c.deref-domain.ensures c.self.view_is) c.requires.unrefused (c.hops.ensures ∙ row))
 
 pub add_on_route-requires-clause-room : goal.add_on_route-requires-clause-room
 add_on_route-requires-clause-room c =
@@ -34,7 +34,7 @@ invariant_of-self-2 c = record {
       (sound-of c.deref-domain.result.now (arc_value c.self.inside.domain) c.self.inside.contracts.items c.self.inside.certificate c.self.inside.sums.items c.deref-domain.ensures c.self.invariant.sound) number (c.bounds.ensures ∙ c.in-Ok.ensures.pushed) c.index-bounds-len.is in
       sound-of (arc_value c.self.inside.domain) c.deref-domain.result.now _ _ _ (sym c.deref-domain.ensures) (sound-more c.deref-domain.result.now c.self.inside.contracts.items _ c.self.inside.certificate _ c.self.inside.sums.items c.as_mut_slice.result.now c.add_on_route.new.sums _ c.args.self.now
       c.args.contract c.args.row c.hops.result.now c.self.inside.sums.len (sound-of c.deref-domain.result.now (arc_value c.self.inside.domain) c.self.inside.contracts.items c.self.inside.certificate c.self.inside.sums.items c.deref-domain.ensures c.self.invariant.sound) (self-of c.deref-domain.result.now (arc_value c.self.inside.domain) c.self.inside.contracts.items c.self.inside.certificate c.args.self.now c.deref-domain.ensures c.self.view_is) c.requires.unrefused (search rules) c.in-Ok.ensures.pushed (c.hops.ensures ∙ row)
-      c.as_mut_slice.ensures.value c.as_mut_slice.ensures.len c.add_on_route.ensures.value c.add_on_route.ensures.small refl)
+      c.as_mut_slice.ensures.value c.as_mut_slice.ensures.len (rw c.contract-2.ensures at c.add_on_route.ensures.value) (rw c.contract-2.ensures at c.add_on_route.ensures.small) refl)
       );
   routes = routes-more (arc_value c.self.inside.domain) c.self.inside.contracts.items _ c.self.inside.routes.items _ c.args.contract c.args.route c.self.invariant.routes
       (search rules) (search rules) (search rules);

@@ -16,15 +16,15 @@ remove-bounds-requires c =
 pub take_on_route-requires-clause-shape : goal.take_on_route-requires-clause-shape
 take_on_route-requires-clause-shape c =
     let inside : c.args.index < length c.self.inside.contracts.items = search rules in
-    shape-less c.deref-domain.result.now c.self.inside.contracts.items c.self.inside.certificate c.self.inside.sums.items c.args.index c.remove-contract.result c.remove-bounds.result c.hops.result.now
-    (sound-of c.deref-domain.result.now (arc_value c.self.inside.domain) c.self.inside.contracts.items c.self.inside.certificate c.self.inside.sums.items c.deref-domain.ensures c.self.invariant.sound) inside c.remove-contract.ensures.value c.remove-bounds.ensures.value c.hops.ensures
+    rw c.contract.ensures (shape-less c.deref-domain.result.now c.self.inside.contracts.items c.self.inside.certificate c.self.inside.sums.items c.args.index c.remove-contract.result c.remove-bounds.result c.hops.result.now
+    (sound-of c.deref-domain.result.now (arc_value c.self.inside.domain) c.self.inside.contracts.items c.self.inside.certificate c.self.inside.sums.items c.deref-domain.ensures c.self.invariant.sound) inside c.remove-contract.ensures.value c.remove-bounds.ensures.value c.hops.ensures)
 
 pub take_on_route-requires-clause-added : goal.take_on_route-requires-clause-added
 take_on_route-requires-clause-added c =
     let inside : c.args.index < length c.self.inside.contracts.items = search rules in (
       loads_of (without_contract (table c.deref-domain.result.now c.self.inside.contracts.items c.self.inside.certificate) c.args.index),
-      before-less c.deref-domain.result.now c.self.inside.contracts.items c.self.inside.certificate c.self.inside.sums.items c.as_mut_slice.result.now c.args.index c.remove-contract.result
-          c.remove-bounds.result c.hops.result.now (sound-of c.deref-domain.result.now (arc_value c.self.inside.domain) c.self.inside.contracts.items c.self.inside.certificate c.self.inside.sums.items c.deref-domain.ensures c.self.invariant.sound) inside c.remove-contract.ensures.value c.remove-bounds.ensures.value c.hops.ensures c.as_mut_slice.ensures.value,
+      rw c.contract.ensures (before-less c.deref-domain.result.now c.self.inside.contracts.items c.self.inside.certificate c.self.inside.sums.items c.as_mut_slice.result.now c.args.index c.remove-contract.result
+          c.remove-bounds.result c.hops.result.now (sound-of c.deref-domain.result.now (arc_value c.self.inside.domain) c.self.inside.contracts.items c.self.inside.certificate c.self.inside.sums.items c.deref-domain.ensures c.self.invariant.sound) inside c.remove-contract.ensures.value c.remove-bounds.ensures.value c.hops.ensures c.as_mut_slice.ensures.value),
     )
 
 pub invariant_of-self : goal.invariant_of-self
@@ -35,7 +35,7 @@ invariant_of-self c = record {
       c.remove-bounds.result c.hops.result.now (sound-of c.deref-domain.result.now (arc_value c.self.inside.domain) c.self.inside.contracts.items c.self.inside.certificate c.self.inside.sums.items c.deref-domain.ensures c.self.invariant.sound) inside c.remove-contract.ensures.value c.remove-bounds.ensures.value c.hops.ensures c.as_mut_slice.ensures.value in
       sound-of (arc_value c.self.inside.domain) c.deref-domain.result.now _ _ _ (sym c.deref-domain.ensures) (sound-less c.deref-domain.result.now c.self.inside.contracts.items _ c.self.inside.certificate _ c.self.inside.sums.items c.as_mut_slice.result.now c.take_on_route.new.sums _ c.args.index
       c.remove-contract.result c.remove-bounds.result c.self.inside.sums.len (sound-of c.deref-domain.result.now (arc_value c.self.inside.domain) c.self.inside.contracts.items c.self.inside.certificate c.self.inside.sums.items c.deref-domain.ensures c.self.invariant.sound) inside c.remove-contract.ensures.items c.remove-bounds.ensures.rest c.as_mut_slice.ensures.value
-      c.as_mut_slice.ensures.len (c.take_on_route.ensures _ before) refl)
+      c.as_mut_slice.ensures.len (c.take_on_route.ensures _ (rw c.contract.ensures before)) refl)
       );
   routes = routes-less (arc_value c.self.inside.domain) c.self.inside.contracts.items _ c.self.inside.routes.items _ c.args.index c.self.invariant.routes
       c.remove-contract.ensures.items c.remove-route.ensures.items;

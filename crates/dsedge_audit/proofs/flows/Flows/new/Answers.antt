@@ -8,7 +8,7 @@ pub loop-place-preserved : goal.loop-place-preserved
 loop-place-preserved c =
     let contracts = c.args.accepted.now.contracts in
     let i = c.loop-place.place in
-    let named = c.bytes-name.ensures.value in
+    let named = rw c.contract.ensures at c.bytes-name.ensures.value in
     let same = c.contracts-contract-items.ensures.value in
     let inside : i < length contracts = omega (arith, ap length same, c.loop-place-test.true) in
     let is_it : c.contract-item.result ≡ get_or contracts i c.contract-item.result =
