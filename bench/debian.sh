@@ -4,10 +4,10 @@
 #
 #     bench/debian.sh [FOLDER] [AT ONCE]
 #
-# The packages come by `apt-get source` with lists of its own into FOLDER (one of its own by default), and from there
-# where they stand in it already; so many captures (as many as there are processors) are judged at once. Each is
-# marked in a domain that takes all packets of IPv4 and IPv6, with `--red keep` and `--red drop`, by one worker and by
-# four.
+# The packages come by `apt-get source` with lists of its own into FOLDER (one of its own by default), tcpreplay from
+# Ubuntu's archive where Debian's mirror lacks it, and from FOLDER where they stand in it already; so many captures
+# (as many as there are processors) are judged at once. Each is marked in a domain that takes all packets of IPv4 and
+# IPv6, with `--red keep` and `--red drop`, by one worker and by four.
 #
 # A plain Rust program (bench/judge_marks) reckons what has to be written, told and refused: the marked capture byte
 # for byte, up to the first fault, the report, the fault's line, and the lines of `arrivals`; of the capture, and of
@@ -188,9 +188,15 @@ fetches() {
     (cd "$kept/sources" && apt-get "${source[@]}" source --download-only "$1" > "$kept/$1.log" 2>&1)
 }
 
+# A source archive that Debian's mirror may lack, from Ubuntu's, which has the same package.
+fetches_elsewhere() {
+    [ "$1" = tcpreplay ] || return 1
+    (cd "$kept/sources" && curl -fsSO http://archive.ubuntu.com/ubuntu/pool/universe/t/tcpreplay/tcpreplay_4.4.4.orig.tar.xz)
+}
+
 packages=()
 for package in ${PACKAGES:-wireshark tcpdump libpcap tcpreplay ndpi}; do
-    if compgen -G "$kept/sources/${package}_*.orig.tar.*" > /dev/null || fetches "$package"; then
+    if compgen -G "$kept/sources/${package}_*.orig.tar.*" > /dev/null || fetches "$package" || fetches_elsewhere "$package"; then
         packages+=("$package")
     else
         echo "debian.sh: the sources of $package cannot be had: $(grep '^E: ' "$kept/$package.log" | head -n 1)" >&2
