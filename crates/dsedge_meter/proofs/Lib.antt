@@ -3,3 +3,4 @@ pub mod ArrivalLemmas
 pub mod MeteredLaws
 pub mod VerdictLaws
 pub mod FrontLemmas
+pub mod FigureLemmas

@@ -36,6 +36,10 @@ colour_word Green = codes "green "
 colour_word Yellow = codes "yellow "
 colour_word Red = codes "red "
 
+-- the levels of two buckets, the committed one first, with a space between them
+abbrev pub figures_of : ℕ → ℕ → List ℕ
+figures_of committed second = decimal committed ++ codes " " ++ decimal second
+
 -- a line with a colour and the levels of two buckets: the committed one first
 abbrev pub levels_line_of : Colour → BucketLevels → List ℕ
 levels_line_of left l =

@@ -1,9 +1,9 @@
 ghost use Rattle.std.specs.Prelude.{◌≡◌, ℕ, ◌+◌, List, ◌∷◌, ◌++◌, Some, IfOk, OnErr, OnOk};
-ghost use Rattle.std.specs.Prelude.{◌≤◌, codes, decimal, drop, vec_capacity, vec_len};
+ghost use Rattle.std.specs.Prelude.{◌-◌, ◌≤◌, drop, length};
 ghost use Rattle.serde_json.specs.View.{view};
 ghost use Rattle.json_lines.specs.JsonLines.{IsLineOf};
 ghost use Rattle.dsedge_meter.specs.Metered.{account_line, accounts_data, accounts_said, accounts_text_in, accounts_text_of};
-ghost use Rattle.dsedge_meter.specs.Metered.{answer_of, colour_line_of, colour_word, levels_line_of, packet_line};
+ghost use Rattle.dsedge_meter.specs.Metered.{answer_of, colour_line_of, colour_word, figures_of, levels_line_of, packet_line};
 
 use crate::arrivals::{arrival, front_arrival};
 use dsedge_lines::{Command, Ending};
@@ -50,11 +50,14 @@ fn push_colour(text: &mut Vec<u8>, colour: Colour) -> Result<(), AllocError>
     }
 }
 
-/// How many bytes the name of a colour takes at most, with the space behind it.
-const MOST_WORD: usize = 7;
+/// How many bytes the room of a line with levels has: at most 29 are written, the LF as its last.
+const LINE: usize = 32;
 
-/// How many bytes the levels of a line take at most: two numbers of ten digits, the space between them, and the LF.
-const MOST_FIGURES: usize = 22;
+/// How many bytes the room of a line and of what is copied behind it has.
+const ROOM: usize = 2 * LINE;
+
+/// How many bytes the room of a colour's name has.
+const WORD: usize = 8;
 
 /// Writes a line with the name of a colour and the levels of two buckets.
 ///
@@ -64,42 +67,54 @@ fn push_levels(text: &mut Vec<u8>, colour: Colour, levels: BucketLevels) -> Resu
     ensures ok { OnOk result (text.new.items ≡ text.old.items ++ levels_line_of colour levels) }
     ensures err { OnErr result (text.new.items ≡ text.old.items) }
 {
-    let mut figures = [b'\n'; MOST_FIGURES];
-    let begin = write_levels(levels.committed, levels.second, &mut figures);
-    text.reserve(MOST_WORD + MOST_FIGURES)?;
-    push_word(text, colour);
-    text.extend_from_slice(&figures[begin..])
+    let mut room = [b'\n'; ROOM];
+    let figures = write_levels(levels.committed, levels.second, &mut room);
+    let begin = write_word(colour, &mut room, figures);
+    let end = text.len() + (LINE - begin);
+    // as many bytes for each line, so that they are copied without a call
+    text.extend_from_slice(&room[begin..begin + LINE])?;
+    text.truncate(end);
+    Ok(())
 }
 
-/// Writes the levels of two buckets, with a space between them, in front of the LF at the end of a buffer, and answers
-/// where they begin.
+/// Writes the levels of two buckets, with a space between them, in front of the LF of a line, and answers where they
+/// begin.
 #[inline(always)]
-fn write_levels(committed: u32, second: u32, figures: &mut [u8; MOST_FIGURES]) -> usize
-    requires { drop 21 figures.old ≡ codes "\n" }
-    ensures written { drop result figures.new
-        ≡ decimal committed ++ codes " " ++ decimal second ++ codes "\n" }
-    ensures within { result ≤ 22 }
+fn write_levels(committed: u32, second: u32, room: &mut [u8; ROOM]) -> usize
+    ensures start { result + length (figures_of committed second) ≡ 31 }
+    ensures written { drop result room.new ≡ figures_of committed second ++ drop 31 room.old }
+    ensures within { 10 ≤ result }
 {
-    let begin = write_digits(u64::from(second), figures, MOST_FIGURES - 1);
+    let begin = write_digits(u64::from(second), room, LINE - 1);
     let between = begin - 1;
-    figures[between] = b' ';
-    write_digits(u64::from(committed), figures, between)
+    room[between] = b' ';
+    write_digits(u64::from(committed), room, between)
 }
 
-/// Writes the name of a colour, and a space, where there is room.
+/// Writes the name of a colour, and a space, in front of what stands in a room from a place on, and answers where it
+/// begins.
 #[inline(always)]
-fn push_word(text: &mut Vec<u8>, colour: Colour)
-    requires { vec_len text.old + 7 ≤ vec_capacity text.old }
-    ensures word { text.new.items ≡ text.old.items ++ colour_word colour }
-    ensures within { vec_len text.new ≤ vec_len text.old + 7 }
-    ensures capacity { vec_capacity text.old ≤ vec_capacity text.new }
+fn write_word(colour: Colour, room: &mut [u8; ROOM], end: usize) -> usize
+    requires { (8 ≤ end) × (end ≤ 64) }
+    ensures start { result + length (colour_word colour) ≡ end }
+    ensures written { drop result room.new ≡ colour_word colour ++ drop end room.old }
 {
-    let pushed = match colour {
-        Colour::Green => text.extend_from_slice(b"green "),
-        Colour::Yellow => text.extend_from_slice(b"yellow "),
-        Colour::Red => text.extend_from_slice(b"red "),
-    };
-    pushed.unwrap();
+    let (word, size) = word_of(colour);
+    room[end - WORD..end].copy_from_slice(&word);
+    end - size
+}
+
+/// The name of a colour, and a space, at the end of eight bytes, and how many of these they are.
+#[inline(always)]
+fn word_of(colour: Colour) -> ([u8; WORD], usize)
+    ensures word { drop (8 - result.1) result.0 ≡ colour_word colour }
+    ensures size { result.1 ≡ length (colour_word colour) }
+{
+    match colour {
+        Colour::Green => (*b"  green ", 6),
+        Colour::Yellow => (*b" yellow ", 7),
+        Colour::Red => (*b"    red ", 4),
+    }
 }
 
 /// Writes a line of the accounts: a colour's name, its packets and its bytes.
