@@ -1,12 +1,11 @@
 ghost use Rattle.std.specs.Prelude.{◌≡◌, ℕ, ◌+◌, ◌-◌, ◌<◌, ◌≤◌, ◌^◌, Bool, true, false, List, [], ◌++◌, length};
-ghost use Rattle.std.specs.Prelude.{All, zip, option_to_list, IfOk, MatchOption, OnErr, OnOk};
+ghost use Rattle.std.specs.Prelude.{zip, option_to_list, IfOk, MatchOption, OnErr, OnOk};
 ghost use Rattle.pcap_capture.specs.Frames.{FrameValue};
 ghost use Rattle.ds_conductor_base.specs.Passing.{colours_of};
 ghost use Rattle.ds_conductor_base.specs.Streams.{colours_left, decided, next_place};
 ghost use Rattle.ds_conductor_base.specs.Visits.{later};
-ghost use Rattle.ds_conditioner.specs.Conditionings.{AreMarksOf, AreSeen, AreSeenInPart, AreSeenOf};
-ghost use Rattle.ds_conditioner.specs.Conditionings.{AreUnseen, IsBounded};
-ghost use Rattle.ds_conditioner.specs.Conditionings.{IsConditioned, IsDecided, IsFirstSeen, IsFirstTakenIn};
+ghost use Rattle.ds_conditioner.specs.Conditionings.{AreMarksOf, AreSeen, AreSeenInPart, AreSeenOf, AreUnseen};
+ghost use Rattle.ds_conditioner.specs.Conditionings.{IsBounded, IsConditioned, IsDecided, IsFirstSeen, IsFirstTakenIn};
 ghost use Rattle.ds_conditioner.specs.Conditionings.{IsOneHandedOut, IsSeeing, IsSeenAtPort, IsUndecided, IsUpToDate};
 ghost use Rattle.ds_conditioner.specs.Conditionings.{see_at};
 ghost use Rattle.ds_conditioner.specs.Handings.{AreHandedOut, IsHandedOut};
@@ -328,8 +327,7 @@ impl<'a> Conditioner<'a> {
     fn decide_first(&mut self) -> Option<Option<(Sent, Colour)>>
         requires { IsBounded self.old }
         ensures bounded { IsBounded self.new }
-        ensures rest { self.new
-            ≡ record self.old { under_way = self.new.under_way; tallies = self.new.tallies } }
+        ensures rest { self.new ≡ record self.old { under_way = self.new.under_way; tallies = self.new.tallies } }
         ensures waiting { self.new.under_way.waiting ≡ self.old.under_way.waiting }
         ensures decided { MatchOption result ((self.new ≡ self.old) × IsUndecided self.old)
             (λ packet. IsDecided packet self.old self.new) }
@@ -345,8 +343,7 @@ impl<'a> Conditioner<'a> {
     fn decided(&mut self, size: PacketSize) -> Option<Colour>
         requires { IsBounded self.old }
         ensures bounded { IsBounded self.new }
-        ensures rest { self.new
-            ≡ record self.old { under_way = self.new.under_way; tallies = self.new.tallies } }
+        ensures rest { self.new ≡ record self.old { under_way = self.new.under_way; tallies = self.new.tallies } }
         ensures answer { result ≡ decided self.old.under_way }
         ensures waiting { self.new.under_way.waiting ≡ self.old.under_way.waiting }
         ensures table { self.new.under_way.table ≡ self.old.under_way.table }
