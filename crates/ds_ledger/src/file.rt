@@ -1,12 +1,13 @@
-ghost use Rattle.std.specs.Prelude.{IfOk};
+ghost use Rattle.std.specs.Prelude.{◌≡◌, IfOk};
 ghost use Rattle.sqlite.specs.Files.{file_state};
 ghost use Rattle.sqlite.specs.State.{HasCleanDisk};
 ghost use Rattle.sqlite.specs.WalFiles.{image_at};
 ghost use Rattle.ds_ledger.specs.Kept.{IsTold, Keeps, Outlasts, WasFoundIn};
 
 use crate::fault::fault_of_open;
-use crate::ledger::SqlLedger;
+use crate::ledger::{End, SqlLedger};
 use crate::reading::{commands_over, ledger_over};
+use crate::site::{Identity, Site, identity_at};
 use ds_broker::Command;
 use ds_ledger_base::{Ledger, LedgerFault, Shelf};
 use sqlite::{Connection, FileFrom, FileStore, Start, Wary};
@@ -56,20 +57,77 @@ fn find_file(rt: &HostRuntime, alloc: Global, path: &str) -> Result<(), LedgerFa
     Ok(())
 }
 
-/// A ledger in a file, read as one whose torn writes may leave anything. Where it goes, its log is copied into the file; a
-/// failure to do so is passed over, since the log keeps what it kept.
-pub struct FileLedger {
-    rows: SqlLedger<FileStore<FileFrom<Wary>>>,
+/// Looks whether the lock of a file that is open holds: it is opened once more, and is refused as one that is kept.
+///
+/// Refused: `Busy` where it can be opened, and else as the database names it.
+fn expect_lock(rt: &HostRuntime, path: &str) -> Result<(), LedgerFault> {
+    match Connection::open_from(rt, path, true, Wary) {
+        Ok(_) => Err(LedgerFault::Busy),
+        Err((error, _)) => match fault_of_open(error) {
+            LedgerFault::Busy => Ok(()),
+            fault => Err(fault),
+        },
+    }
 }
 
-impl Drop for FileLedger {
+/// Where the file of a path stands that was opened, which led to this file before, and whose lock holds.
+fn site_of(
+    rt: &HostRuntime,
+    alloc: Global,
+    path: &str,
+    before: Identity,
+) -> Result<Site, LedgerFault>
+    ensures before { IfOk result (λ site. site.opened.database ≡ before) }
+    ensures found { IfOk result (λ site. site.found ≡ site.opened) }
+{
+    let site = Site::new(rt, alloc, path, before)?;
+    expect_lock(rt, path)?;
+    Ok(site)
+}
+
+/// A ledger in a file, read as one whose torn writes may leave anything. Where it goes, its log is copied into the file; a
+/// failure to do so is passed over, since the log keeps what it kept.
+///
+/// Its next open finds it where its path leads to the same two files as when it was opened.
+pub struct FileLedger<'a> {
+    rt: &'a HostRuntime,
+    rows: SqlLedger<FileStore<FileFrom<Wary>>>,
+    site: Site,
+    /// How far its rows went when its files were last found there.
+    located: End,
+}
+
+impl<'a> FileLedger<'a> {
+    /// A ledger that was opened, whose files were found since.
+    fn new(rt: &'a HostRuntime, rows: SqlLedger<FileStore<FileFrom<Wary>>>, site: Site) -> Self
+        ensures rows { result.rows ≡ rows }
+        ensures site { result.site ≡ site }
+        ensures located { result.located ≡ rows.end }
+    {
+        let located = rows.end;
+        FileLedger {
+            rt,
+            rows,
+            site,
+            located,
+        }
+    }
+}
+
+impl Drop for FileLedger<'_> {
     fn drop(self) {
-        let FileLedger { rows } = self;
+        let FileLedger {
+            rt: _,
+            rows,
+            site: _site,
+            located: _,
+        } = self;
         let _closed = rows.into_connection().close();
     }
 }
 
-impl Ledger for FileLedger {
+impl Ledger for FileLedger<'_> {
+    ghost use Rattle.std.specs.Prelude.{◌≡◌};
     ghost use Rattle.sqlite.specs.State.{HasCleanDisk};
     ghost use Rattle.ds_ledger.specs.Kept.{IsTold, Keeps, MayLeave, Recovers};
 
@@ -83,8 +141,16 @@ impl Ledger for FileLedger {
 
     ghost recovers = { λ ledger. Recovers (file_state ledger.rows.conn) };
 
+    ghost located = { λ ledger. (ledger.located ≡ ledger.rows.end) × (ledger.site.found ≡ ledger.site.opened) };
+
     fn append(&mut self, commands: &[Command]) -> Result<(), LedgerFault> {
         self.rows.append(commands)
+    }
+
+    fn locate(&mut self) -> Result<(), LedgerFault> {
+        self.site.find(self.rt)?;
+        self.located = self.rows.end;
+        Ok(())
     }
 }
 
@@ -127,21 +193,34 @@ impl<'a> FileShelf<'a> {
 }
 
 impl<'a> Shelf for FileShelf<'a> {
-    type Kept = FileLedger;
+    type Kept = FileLedger<'a>;
 
     ghost stands = { λ _ _ _. Unit {0} };
 
-    /// A file that is not there is made, for its owner alone.
-    fn open(&self, alloc: Global, name: &str) -> Result<(FileLedger, Vec<Command>), LedgerFault> {
+    /// A file that is not there is made, for its owner alone. `Open` where its path leads to another file meanwhile, and
+    /// `Busy` where its lock does not hold.
+    fn open(
+        &self,
+        alloc: Global,
+        name: &str,
+    ) -> Result<(FileLedger<'a>, Vec<Command>), LedgerFault> {
+        make_file(self.rt, name)?;
+        let before = identity_at(self.rt, name)?;
         let (rows, commands) = open_ledger(self.rt, alloc, name, Wary)?;
-        Ok((FileLedger { rows }, commands))
+        match site_of(self.rt, alloc, name, before) {
+            Ok(site) => Ok((FileLedger::new(self.rt, rows, site), commands)),
+            Err(fault) => Err(fault),
+        }
     }
 
-    /// A file that is empty, with no log beside it, is of another form.
+    /// A file that is empty, with no log beside it, is of another form. `Busy` where its lock does not hold.
     fn commands(&self, alloc: Global, name: &str) -> Result<Vec<Command>, LedgerFault> {
         find_file(self.rt, alloc, name)?;
         match Connection::open_from(self.rt, name, true, Wary) {
-            Ok(conn) => commands_over(alloc, conn),
+            Ok(conn) => match expect_lock(self.rt, name) {
+                Ok(()) => commands_over(alloc, conn),
+                Err(fault) => Err(fault),
+            },
             Err((error, _)) => Err(fault_of_open(error)),
         }
     }

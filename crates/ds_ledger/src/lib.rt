@@ -6,6 +6,7 @@ mod file;
 mod laws;
 mod ledger;
 mod reading;
+mod site;
 
 pub use file::{FileLedger, FileShelf, open_ledger};
 pub use laws::{crash_is_found_again, crash_leaves_last_commit, rows_tell_commands};

@@ -1,4 +1,4 @@
-ghost use Rattle.std.specs.Prelude.{◌≡◌, ◌⊎◌, ◌<◌, ℕ, List, Result, Ok, Err, IfOk, MatchResult, OnErr, OnOk, length};
+ghost use Rattle.std.specs.Prelude.{◌≡◌, ◌⊎◌, ◌<◌, ℕ, List, Result, Ok, Err, IfErr, IfOk, MatchResult, OnErr, OnOk, length};
 ghost use Rattle.ds_ledger_base.specs.Lasting.{IsBehind, KeepsMore, KeepsSame};
 
 use crate::fault::LedgerFault;
@@ -24,6 +24,9 @@ pub trait Ledger {
     // Whatever a crash leaves at this moment, there are commands that the next open finds in it.
     ghost recovers: { Self → Type 0 };
 
+    // Behind the last commands that it was given it was seen to stand where its next open looks for it.
+    ghost located: { Self → Type 0 };
+
     /// Keeps commands more, which a book accepted behind the others: all of them, or none. What `Ok` answers is found
     /// again whatever a crash leaves from then on; a crash on the way may leave these commands too.
     fn append(&mut self, commands: &[Command]) -> Result<(), LedgerFault>
@@ -37,6 +40,19 @@ pub trait Ledger {
             leaves self.old found ⊎ (tells self.old × IsBehind (keeps self.old) commands.now found) }
         ensures recovers { honest self.new → recovers self.old →
             (tells self.old → (history : List Command) × keeps self.old history) → recovers self.new };
+
+    /// Looks whether it stands where its next open looks for it, and keeps what it keeps. This is judged as it runs,
+    /// since no clause ties a name to a file; so it is asked behind each `append`, before what that kept is answered.
+    ///
+    /// Refused: `Write` where it does not stand there; `NoMemory` where memory runs out.
+    fn locate(&mut self) -> Result<(), LedgerFault>
+        ensures located { OnOk result (located self.new) }
+        ensures unchanged { tells self.new → KeepsSame (keeps self.old) (keeps self.new) }
+        ensures told { tells self.new → tells self.old }
+        ensures truthful { honest self.new → honest self.old }
+        ensures crash { honest self.new → (found : List Command) → leaves self.new found → leaves self.old found }
+        ensures recovers { honest self.new → recovers self.old → recovers self.new }
+        ensures refused { IfErr result (λ fault. (fault ≡ LedgerFault.Write) ⊎ (fault ≡ LedgerFault.NoMemory)) };
 }
 
 /// Where ledgers stand by their names.
@@ -56,7 +72,8 @@ pub trait Shelf {
             (λ fault. stands self.now name.now (Err fault)) }
         ensures kept { IfOk result (λ opened. Self.Kept.tells opened.0 → Self.Kept.keeps opened.0 opened.1.items) }
         ensures lasting { IfOk result (λ opened. Self.Kept.honest opened.0 → Self.Kept.recovers opened.0
-            × ((found : List Command) → Self.Kept.leaves opened.0 found → found ≡ opened.1.items)) };
+            × ((found : List Command) → Self.Kept.leaves opened.0 found → found ≡ opened.1.items)) }
+        ensures located { IfOk result (λ opened. Self.Kept.located opened.0) };
 
     /// The commands that the ledger of a name keeps. It keeps the same ones afterwards, and one that is not there is
     /// not made: `Open`.
@@ -80,7 +97,13 @@ impl Ledger for Unkept {
 
     ghost recovers = { λ _. ⊥ };
 
+    ghost located = { λ _. Unit {0} };
+
     fn append(&mut self, _commands: &[Command]) -> Result<(), LedgerFault> {
+        Ok(())
+    }
+
+    fn locate(&mut self) -> Result<(), LedgerFault> {
         Ok(())
     }
 }

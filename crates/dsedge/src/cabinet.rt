@@ -33,12 +33,16 @@ impl Folder for Cabinet<'_> {
     }
 }
 
-impl Shelf for Cabinet<'_> {
-    type Kept = FileLedger;
+impl<'a> Shelf for Cabinet<'a> {
+    type Kept = FileLedger<'a>;
 
     ghost stands = { λ _ _ _. Unit {0} };
 
-    fn open(&self, alloc: Global, name: &str) -> Result<(FileLedger, Vec<Command>), LedgerFault> {
+    fn open(
+        &self,
+        alloc: Global,
+        name: &str,
+    ) -> Result<(FileLedger<'a>, Vec<Command>), LedgerFault> {
         self.shelf.open(alloc, name)
     }
 

@@ -156,6 +156,17 @@ kept-first g ledger kept history commands same long keeps lasting =
       again = λ honest found left. record { count = kept; enough = omega arith; within = omega (arith, long); found_is = (lasting honest).1 found left ∙ sym all };
     }
 
+-- a ledger that was looked for keeps what it kept
+pub kept_located : {L : Type 0} (g : Ghosts L) (old new : L) (kept : ℕ) (history : List Command) → IsKept g old kept history
+    → (g.tells new → g.tells old) → (g.honest new → g.honest old) → (g.tells new → (before : List Command) → g.keeps old before → g.keeps new before)
+    → (g.honest new → (found : List Command) → g.leaves new found → g.leaves old found) → (g.honest new → g.recovers old → g.recovers new) → IsKept g new kept history
+kept_located g old new kept history it told truthful unchanged crash recovers = record {
+  within = it.within;
+  keeps = λ tells. unchanged tells (take kept history) (it.keeps (told tells));
+  recovers = λ honest. recovers honest (it.recovers (truthful honest));
+  again = λ honest found left. it.again (truthful honest) found (crash honest found left);
+}
+
 -- A ledger was asked to keep the commands from those that it keeps up to a place: it answered that it does, or not.
 module _ {L : Type 0} (g : Ghosts L) (old new : L) (kept end : ℕ) (history : List Command) (it : IsKept g old kept history) (some : kept < end) (within : end ≤ length history)
     (truthful : g.honest new → g.honest old) where

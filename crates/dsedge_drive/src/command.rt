@@ -1,5 +1,5 @@
 ghost use Rattle.std.specs.Prelude.{◌≡◌, ℕ, ◌+◌, ◌<◌, List, [], ◌∷◌, ◌++◌, false, IsTrue, IfErr, IfOk, IfSome, OnErr, OnOk};
-ghost use Rattle.std.specs.Prelude.{Some, is_some, length, take, option_and_then, option_map, slice_get};
+ghost use Rattle.std.specs.Prelude.{None, Some, is_some, length, take, option_and_then, option_map, slice_get};
 ghost use Rattle.line_text.specs.Lines.{has_byte, lines_of};
 ghost use Rattle.dsedge_lines.specs.Answers.{Answers, AnswersAll, AnswersFront, behind};
 ghost use Rattle.dsedge_drive.specs.Again.{AreAnswersFound, FollowsAll, FollowsFront, FollowsLine};
@@ -245,13 +245,14 @@ impl<J: Naming, R: Wait + Drop, L: Ledger + Drop> DriveCommand<J, R, L> {
         }
     }
 
-    /// Gives out what is answered, once all of it is kept.
+    /// Gives out what is answered, once all of it is kept where the next run looks for it; nothing behind a fault.
     fn give(&mut self, out: &mut Vec<u8>) -> Result<(), AllocError>
         ensures given { OnOk result (out.new.items ≡ out.old.items ++ self.old.unsaid) }
         ensures kept { OnOk result (self.new
             ≡ record self.old { unsaid = []; kept = length self.old.book.history }) }
         ensures back { OnErr result (out.new.items ≡ out.old.items) }
         ensures further { OnErr result (IsFurtherKept self.old self.new) }
+        ensures sound { OnOk result (self.old.fault ≡ None) }
     {
         self.keeper.settle(self.shop.book().history())?;
         out.extend_from_slice(self.answers.as_slice())?;

@@ -1,5 +1,6 @@
 //! The ledger of a broker, and how much of its book stands there.
-ghost use Rattle.std.specs.Prelude.{◌≡◌, ◌<◌, ◌≤◌, length, IsSome, OnErr, OnOk};
+ghost use Rattle.std.specs.Prelude.{◌≡◌, ◌<◌, ◌≤◌, List, length, IsSome, None, OnErr, OnOk};
+ghost use Rattle.ds_broker.specs.declared.command.Command as commands;
 ghost use Rattle.dsedge_drive.specs.Kept.{IsKept};
 
 use ds_broker::Command;
@@ -59,8 +60,9 @@ impl<L: Ledger + Drop> Keeper<L> {
         self.fault
     }
 
-    /// Keeps all commands of a book, so many at once at most. Where the ledger refuses, that is noted, and it keeps
-    /// those that it kept before, or some of those that came.
+    /// Keeps all commands of a book, so many at once at most, and sees each time that the ledger is where its next open
+    /// looks for it. Where the ledger refuses, that is noted, and it keeps those that it kept before, or some of those
+    /// that came; from then on this fails.
     pub(crate) fn settle(&mut self, history: &[Command]) -> Result<(), AllocError>
         requires { IsKept L.Ledger self.old.ledger self.old.kept history.now }
         ensures all { OnOk result (self.new.kept ≡ length history.now) }
@@ -68,14 +70,19 @@ impl<L: Ledger + Drop> Keeper<L> {
         ensures faultless { OnOk result (self.new.fault ≡ self.old.fault) }
         ensures fault { OnErr result (IsSome self.new.fault) }
         ensures further { self.old.kept ≤ self.new.kept }
+        ensures sound { OnOk result (self.old.fault ≡ None) }
+        ensures located { OnOk result (self.old.kept < length history.now → L.Ledger.located self.new.ledger) }
     {
+        if self.fault.is_some() {
+            return Err(AllocError);
+        }
         while self.kept < history.len() {
             self.keep_next(history)?;
         }
         Ok(())
     }
 
-    /// Keeps the next commands of a book.
+    /// Keeps the next commands of a book, and sees that the ledger is where its next open looks for it.
     fn keep_next(&mut self, history: &[Command]) -> Result<(), AllocError>
         requires some { self.old.kept < length history.now }
         requires kept { IsKept L.Ledger self.old.ledger self.old.kept history.now }
@@ -84,15 +91,35 @@ impl<L: Ledger + Drop> Keeper<L> {
         ensures faultless { OnOk result (self.new.fault ≡ self.old.fault) }
         ensures fault { OnErr result (IsSome self.new.fault) }
         ensures further { self.old.kept ≤ self.new.kept }
+        ensures located { OnOk result (L.Ledger.located self.new.ledger) }
     {
         let end = history.len().min(self.kept + MOST_AT_ONCE);
         match self.ledger.append(&history[self.kept..end]) {
             Ok(()) => {
                 self.kept = end;
-                Ok(())
+                self.locate()
             }
             Err(fault) => {
                 self.fault = Some(fault);
+                Err(AllocError)
+            }
+        }
+    }
+
+    /// Sees that the ledger is where its next open looks for it. Where it refuses, that is noted; it keeps what it kept.
+    #[tactic(auto, using(crate::proofs::KeepLaws::kept_located))]
+    fn locate(&mut self) -> Result<(), AllocError>
+        ensures located { OnOk result (L.Ledger.located self.new.ledger) }
+        ensures kept { (history : List commands.Command) → IsKept L.Ledger self.old.ledger self.old.kept history →
+            IsKept L.Ledger self.new.ledger self.old.kept history }
+        ensures same { self.new.kept ≡ self.old.kept }
+        ensures faultless { OnOk result (self.new.fault ≡ self.old.fault) }
+        ensures fault { OnErr result (IsSome self.new.fault) }
+    {
+        match self.ledger.locate() {
+            Ok(()) => Ok(()),
+            Err(reason) => {
+                self.fault = Some(reason);
                 Err(AllocError)
             }
         }

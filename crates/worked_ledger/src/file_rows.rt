@@ -113,7 +113,7 @@ ebs = 40
 "#;
 
 /// The book of the domain, with all of its contracts, the second of which is released and retired.
-fn sold(rt: &impl Abort, alloc: Global) -> Book {
+pub(crate) fn sold(rt: &impl Abort, alloc: Global) -> Book {
     let (domain, contracts) = parse(alloc, DOMAIN.as_bytes()).expect(rt, "a domain");
     let limits = Limits::new(8, 16).expect(rt, "limits");
     let Ok(mut book) = Book::new(alloc, domain, limits) else {
@@ -177,15 +177,23 @@ fn keep<S: Shelf>(rt: &impl Abort, alloc: Global, shelf: &S, book: &Book) {
     drop(ledger);
 }
 
+/// Removes files, as far as they are there.
+pub(crate) fn clear(files: &impl Files, paths: &[&str]) {
+    for path in paths {
+        let _gone = files.remove_file(path);
+    }
+}
+
 /// Where the file stands.
 const KEPT: &str = "worked_ledger_kept.db";
+
+/// The file, and its log.
+const FILES: [&str; 2] = [KEPT, "worked_ledger_kept.db-wal"];
 
 #[test]
 fn what_a_file_keeps_is_read_again(rt: HostRuntime) {
     let alloc = rt.alloc();
-    for name in [KEPT, "worked_ledger_kept.db-wal"] {
-        let _gone = rt.remove_file(name);
-    }
+    clear(&rt, &FILES);
     let book = sold(&rt, alloc);
     let shelf = FileShelf::new(&rt);
     keep(&rt, alloc, &shelf, &book);
@@ -200,9 +208,7 @@ fn what_a_file_keeps_is_read_again(rt: HostRuntime) {
     drop(ledger);
     drop(again);
     drop(book);
-    for name in [KEPT, "worked_ledger_kept.db-wal"] {
-        let _gone = rt.remove_file(name);
-    }
+    clear(&rt, &FILES);
 }
 
 #[test]

@@ -4,3 +4,5 @@
 
 #[cfg(test)]
 mod file_rows;
+#[cfg(test)]
+mod place_rows;

@@ -32,6 +32,8 @@ impl Ledger for Failing {
 
     ghost recovers = { λ _. ⊥ };
 
+    ghost located = { λ _. Unit {0} };
+
     fn append(&mut self, _commands: &[Command]) -> Result<(), LedgerFault> {
         if self.times == 0 {
             return Err(LedgerFault::Write);
