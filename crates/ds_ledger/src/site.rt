@@ -18,10 +18,7 @@ pub(crate) struct Identity {
 /// Which file was found, as one that an open takes: a regular file with one name.
 ///
 /// Refused: `otherwise` where no such file was found, `NoMemory` where memory ran out.
-fn identity_of(
-    found: io::Result<Metadata>,
-    otherwise: LedgerFault,
-) -> Result<Identity, LedgerFault>
+fn identity_of(found: io::Result<Metadata>, otherwise: LedgerFault) -> Result<Identity, LedgerFault>
     ensures { IfErr result (λ fault. (fault ≡ otherwise) ⊎ (fault ≡ LedgerFault.NoMemory)) }
 {
     match found {
@@ -66,7 +63,9 @@ impl Paths {
     fn new(rt: &HostRuntime, alloc: Global, path: &str) -> Result<Self, LedgerFault> {
         let real = match fs::canonicalize(rt, path) {
             Ok(real) => real,
-            Err(error) if error.kind() == ErrorKind::OutOfMemory => return Err(LedgerFault::NoMemory),
+            Err(error) if error.kind() == ErrorKind::OutOfMemory => return Err(
+                LedgerFault::NoMemory,
+            ),
             Err(_) => return Err(LedgerFault::Open),
         };
         let (Ok(given), Ok(log)) = (

@@ -13,14 +13,14 @@ pub enum LedgerFault {
     /// The file is a database of another form.
     #[error("the file is of another form")]
     Form,
-    /// The file is kept by another broker.
-    #[error("another broker keeps the file")]
+    /// The file is kept by another broker, or its lock keeps none off.
+    #[error("another broker keeps the file, or its lock keeps none off")]
     Busy,
     /// The file cannot be opened or made.
     #[error("the file cannot be opened")]
     Open,
-    /// The disk is full or failed.
-    #[error("the disk is full or failed")]
+    /// The disk is full or failed, or the file is not where it was opened.
+    #[error("the disk is full or failed, or the file is not where it was opened")]
     Write,
     /// Memory ran out.
     #[error("out of memory")]

@@ -2,11 +2,10 @@ use crate::file_rows::{clear, sold};
 use ds_ledger::FileShelf;
 use ds_ledger_base::{Ledger, LedgerFault, Shelf};
 use std::alloc::Global;
-use std::fs;
-use std::io;
 use std::os::unix::fs::symlink;
 use std::process::Abort;
 use std::rt::Files;
+use std::{fs, io};
 
 /// What is done to the files of a ledger while it is kept.
 #[derive(Clone, Copy)]

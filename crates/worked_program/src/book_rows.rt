@@ -15,10 +15,21 @@ use std::test::Fail;
 use std::thread::Threads;
 use worked_texts::wide;
 
-/// A ledger that keeps commands so many times, and then fails.
+/// A ledger that keeps commands so many times, and is found so many times, and then fails.
 #[derive(Drop)]
 struct Failing {
     times: u32,
+    finds: u32,
+}
+
+impl Failing {
+    /// One that keeps commands so many times, and is found each time.
+    fn keeping(times: u32) -> Self {
+        Failing {
+            times,
+            finds: u32::MAX,
+        }
+    }
 }
 
 impl Ledger for Failing {
@@ -41,6 +52,14 @@ impl Ledger for Failing {
         self.times -= 1;
         Ok(())
     }
+
+    fn locate(&mut self) -> Result<(), LedgerFault> {
+        if self.finds == 0 {
+            return Err(LedgerFault::Write);
+        }
+        self.finds -= 1;
+        Ok(())
+    }
 }
 
 /// What a shelf has.
@@ -48,6 +67,8 @@ impl Ledger for Failing {
 enum Has {
     /// A ledger without a command, that keeps so many times.
     Times(u32),
+    /// A ledger without a command, that is found so many times.
+    Finds(u32),
     /// A ledger with the sale of the first contract of the domain.
     Sale,
     /// A ledger with the release of a contract that was never granted.
@@ -137,10 +158,17 @@ impl Shelf for Room<'_> {
 
     fn open(&self, alloc: Global, _name: &str) -> Result<(Failing, Vec<Command>), LedgerFault> {
         match self.has {
-            Has::Times(times) => Ok((Failing { times }, Vec::new(alloc))),
-            Has::Sale => Ok((Failing { times: 0 }, self.sale(alloc)?)),
-            Has::Release => Ok((Failing { times: 0 }, unknown(alloc)?)),
-            Has::Sold => Ok((Failing { times: 1 }, sold(alloc)?)),
+            Has::Times(times) => Ok((Failing::keeping(times), Vec::new(alloc))),
+            Has::Finds(finds) => Ok((
+                Failing {
+                    times: u32::MAX,
+                    finds,
+                },
+                Vec::new(alloc),
+            )),
+            Has::Sale => Ok((Failing::keeping(0), self.sale(alloc)?)),
+            Has::Release => Ok((Failing::keeping(0), unknown(alloc)?)),
+            Has::Sold => Ok((Failing::keeping(1), sold(alloc)?)),
             Has::None(fault) => Err(fault),
         }
     }
@@ -191,14 +219,19 @@ const ALL: &str = "granted 1 1 0\ngranted 2 2 0\nserial 2 contracts 2\n";
 const FAILS: &str = "dsedge: book Write\n";
 
 /// A shelf, how the lines are cut, and what is left behind. Lines of one piece are kept together, before any of them is
-/// answered.
-static ROWS: [(Has, usize, Wanted<'static>); 12] = [
+/// answered, and the ledger is looked for once behind them.
+static ROWS: [(Has, usize, Wanted<'static>); 17] = [
     (Has::Times(2), 10, (ALL, "", 0)),
     (Has::Times(1), 10, (ONE, FAILS, 4)),
     (Has::Times(0), 10, ("", FAILS, 4)),
     (Has::Times(1), 100, (ALL, "", 0)),
     (Has::Times(0), 100, ("", FAILS, 4)),
     (Has::Times(1), 22, (ALL, "", 0)),
+    (Has::Finds(2), 10, (ALL, "", 0)),
+    (Has::Finds(1), 10, (ONE, FAILS, 4)),
+    (Has::Finds(0), 10, ("", FAILS, 4)),
+    (Has::Finds(1), 100, (ALL, "", 0)),
+    (Has::Finds(0), 100, ("", FAILS, 4)),
     (Has::Release, 100, ("", "dsedge: book 1 UnknownId\n", 3)),
     (
         Has::None(LedgerFault::NoDatabase),

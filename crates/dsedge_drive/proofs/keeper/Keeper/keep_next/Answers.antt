@@ -10,7 +10,7 @@ returns-in-Ok-clause-kept g c =
     let within : end ≤ length c.args.history.now = omega (arith, c.min-end.ensures) in
     let took = c.append.ensures in
     let kept = kept-more g.L.Ledger old.ledger c.append.new.self old.kept end c.args.history.now c.requires.kept some within took.truthful
-        took.told c.in-Ok.ensures.appended c.in-Ok.ensures.lasting took.recovers (some-taken c.args.history.now old.kept end some within) in
+    took.told c.in-Ok.ensures.appended c.in-Ok.ensures.lasting took.recovers (some-taken c.args.history.now old.kept end some within) in
     rw (c.locate.ensures.same) (c.locate.ensures.kept c.args.history.now kept)
 
 pub returns-in-Err-clause-kept : goal.returns-in-Err-clause-kept
