@@ -97,23 +97,6 @@ pub struct FileLedger<'a> {
     located: End,
 }
 
-impl<'a> FileLedger<'a> {
-    /// A ledger that was opened, whose files were found since.
-    fn new(rt: &'a HostRuntime, rows: SqlLedger<FileStore<FileFrom<Wary>>>, site: Site) -> Self
-        ensures rows { result.rows ≡ rows }
-        ensures site { result.site ≡ site }
-        ensures located { result.located ≡ rows.end }
-    {
-        let located = rows.end;
-        FileLedger {
-            rt,
-            rows,
-            site,
-            located,
-        }
-    }
-}
-
 impl Drop for FileLedger<'_> {
     fn drop(self) {
         let FileLedger {
@@ -208,7 +191,16 @@ impl<'a> Shelf for FileShelf<'a> {
         let before = identity_at(self.rt, name)?;
         let (rows, commands) = open_ledger(self.rt, alloc, name, Wary)?;
         match site_of(self.rt, alloc, name, before) {
-            Ok(site) => Ok((FileLedger::new(self.rt, rows, site), commands)),
+            Ok(site) => {
+                let located = rows.end;
+                let ledger = FileLedger {
+                    rt: self.rt,
+                    rows,
+                    site,
+                    located,
+                };
+                Ok((ledger, commands))
+            }
             Err(fault) => Err(fault),
         }
     }
