@@ -16,9 +16,9 @@
 # on whose broker was killed; and so do those that copy a long log into the file amid a sale. The broker tells a fault,
 # the next one has every command that was answered, and at most one more, and sqlite3 finds the file sound.
 #
-# Paths: amid a sale the file goes to another path, or a copy takes its place, or its log goes. What is sold then is not
-# answered, `dsedge: book Write` is told with status 4, and once the files are back the next broker has every command
-# that was answered, and at most one more.
+# Paths: amid a sale the file goes to another path, or a copy takes its place, or its log goes. The next command is not
+# answered, `dsedge: book Write` is told with status 4, and once the files are back the next broker has what was
+# answered.
 #
 # Disks: on a tmpfs of 4, 8, .. 512 KiB the broker sells until it is full. All that it answered is there, on that disk
 # or as it tells that it cannot be read there, and in a copy with room. This needs the right to mount, or namespaces
@@ -63,7 +63,7 @@ awk 'BEGIN {
     for (contract = 1; contract <= 512; contract++) printf "retire %d %.0f\n", contract, 1000000000 * (1000 + contract)
 }' > "$folder/large"
 
-# Sells a contract, does what is said to the files, sells another, undoes it, and looks what the next broker has.
+# Sells a contract, does what is said to the files, releases it, undoes that, and looks what the next broker has.
 takes() {
     local kind=$1 done=$2 undone=$3 room=$folder/paths broker status held
     mkdir "$room"
@@ -77,14 +77,14 @@ takes() {
         sleep 0.05
     done
     (cd "$room" && eval "$done")
-    echo 'reserve b' >&3
+    echo 'release 1 1000000000' >&3
     exec 3>&-
     wait "$broker"
     status=$?
     (cd "$room" && eval "$undone")
     held=$(echo list | "$program" drive "$folder/small.toml" --book "$room/book.db" | cut -d ' ' -f 1,2 | tr '\n' ' ')
     if [ "$status" -eq 4 ] && [ "$(cat "$room/told")" = 'dsedge: book Write' ] &&
-        [ "$(cut -d ' ' -f 1,2 "$room/out")" = 'granted 1' ] && { [ "$held" = '1 a ' ] || [ "$held" = '1 a 2 b ' ]; }; then
+        [ "$(cut -d ' ' -f 1,2 "$room/out")" = 'granted 1' ] && [ "$held" = '1 a ' ]; then
         echo "paths: $kind: nothing more is answered, and what was answered is there"
     else
         echo "paths: $kind: status $status, told $(cat "$room/told"), answered $(cat "$room/out"), held $held"
