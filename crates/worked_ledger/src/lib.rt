@@ -5,4 +5,6 @@
 #[cfg(test)]
 mod file_rows;
 #[cfg(test)]
+mod form_rows;
+#[cfg(test)]
 mod place_rows;

@@ -1,0 +1,152 @@
+use crate::file_rows::clear;
+use ds_ledger::FileShelf;
+use ds_ledger_base::{LedgerFault, Shelf};
+use sqlite::{Connection, Error};
+use std::alloc::{AllocError, Global};
+use std::process::Abort;
+
+/// A database, in what it may have otherwise than a ledger's.
+struct Form {
+    name: &'static str,
+    /// The kind of the column of moments.
+    moment: &'static str,
+    /// What stands at the end of the view of what is held.
+    held: &'static str,
+    version: &'static str,
+    /// A statement behind those of a ledger.
+    more: &'static str,
+}
+
+/// The form of a ledger.
+const OWN: Form = Form {
+    name: "its own",
+    moment: "INTEGER",
+    held: "",
+    version: "1",
+    more: "",
+};
+
+/// Forms of which each has one thing otherwise.
+const OTHERS: [Form; 6] = [
+    Form {
+        name: "a column of another kind",
+        moment: "TEXT",
+        ..OWN
+    },
+    Form {
+        name: "a column that may not be empty",
+        moment: "INTEGER NOT NULL",
+        ..OWN
+    },
+    Form {
+        name: "a view of something else",
+        held: " AND id > 1",
+        ..OWN
+    },
+    Form {
+        name: "another version",
+        version: "2",
+        ..OWN
+    },
+    Form {
+        name: "a third table",
+        more: "CREATE TABLE third (id INTEGER PRIMARY KEY) STRICT",
+        ..OWN
+    },
+    Form {
+        name: "an index",
+        more: "CREATE INDEX by_id ON command (id)",
+        ..OWN
+    },
+];
+
+/// The statement that makes the table of commands.
+fn command_table(alloc: Global, moment: &str) -> Result<String, AllocError> {
+    format!(in alloc; "CREATE TABLE command (serial INTEGER PRIMARY KEY, done TEXT, id INTEGER, moment {moment}, \
+    name TEXT, port TEXT, path TEXT, class INTEGER, kind TEXT, mode TEXT, cir INTEGER, cbs INTEGER, pir INTEGER, pbs INTEGER, \
+    eir INTEGER, ebs INTEGER, since INTEGER, until INTEGER, src ANY, src_length INTEGER, dst ANY, \
+    dst_length INTEGER, protocol INTEGER, sport_low INTEGER, sport_high INTEGER, dport_low INTEGER, dport_high \
+    INTEGER, dscp INTEGER) STRICT")
+}
+
+/// The statement that makes the view of what is held.
+fn held_view(alloc: Global, end: &str) -> Result<String, AllocError> {
+    format!(in alloc; "CREATE VIEW held AS SELECT id, name, port, path, class, kind, mode, cir, cbs, pir, pbs, eir, ebs, \
+    since, until, (SELECT moment FROM command AS ended WHERE ended.done = 'release' AND ended.id = command.id) AS \
+    released FROM command WHERE done = 'reserve' AND id NOT IN (SELECT id FROM command WHERE done = 'retire'){end}")
+}
+
+/// Where the file stands, and its log.
+const FORMED: [&str; 2] = ["worked_ledger_formed.db", "worked_ledger_formed.db-wal"];
+
+/// Makes a database there by statements.
+fn make(rt: &HostRuntime, statements: &[&str]) -> Result<(), Error> {
+    let mut conn = Connection::open_with_sums(rt, FORMED[0])?;
+    for statement in statements {
+        conn.execute_batch(statement)?;
+    }
+    conn.close()
+}
+
+/// Makes a database of a form there.
+fn make_form(rt: &HostRuntime, form: &Form) {
+    let alloc = rt.alloc();
+    let command = command_table(alloc, form.moment).expect(rt, "memory");
+    let held = held_view(alloc, form.held).expect(rt, "memory");
+    let version =
+        format!(in alloc; "INSERT INTO form VALUES ({})", form.version).expect(rt, "memory");
+    let statements = [
+        command.as_str(),
+        "CREATE TABLE form (version INTEGER PRIMARY KEY) STRICT",
+        held.as_str(),
+        version.as_str(),
+        form.more,
+    ];
+    let made = make(rt, &statements);
+    assert!(rt; made.is_ok(), "{}", form.name);
+}
+
+/// Expects that a database which is made there is refused for its form, each time that it is opened.
+fn expect_refused<S: Shelf>(rt: &(impl Abort + AllocGlobal), shelf: &S, name: &str) {
+    for _ in 0..2 {
+        let opened = shelf.open(rt.alloc(), FORMED[0]);
+        assert!(rt; matches!(opened, Err(LedgerFault::Form)), "{name}");
+        let told = shelf.commands(rt.alloc(), FORMED[0]);
+        assert!(rt; matches!(told, Err(LedgerFault::Form)), "{name}");
+    }
+}
+
+#[test]
+fn a_database_of_the_form_is_a_ledger(rt: HostRuntime) {
+    clear(&rt, &FORMED);
+    make_form(&rt, &OWN);
+    let shelf = FileShelf::new(&rt);
+    let (ledger, commands) = shelf.open(rt.alloc(), FORMED[0]).expect(&rt, "a ledger");
+    assert!(rt; commands.is_empty());
+    drop(ledger);
+    drop(commands);
+    clear(&rt, &FORMED);
+}
+
+#[test]
+fn a_database_of_another_form_is_refused(rt: HostRuntime) {
+    for form in &OTHERS {
+        clear(&rt, &FORMED);
+        make_form(&rt, form);
+        expect_refused(&rt, &FileShelf::new(&rt), form.name);
+    }
+    clear(&rt, &FORMED);
+}
+
+#[test]
+fn a_database_of_something_else_gets_no_table(rt: HostRuntime) {
+    clear(&rt, &FORMED);
+    let made = make(&rt, &["CREATE TABLE note (title TEXT)"]);
+    assert!(rt; made.is_ok());
+    expect_refused(&rt, &FileShelf::new(&rt), "notes");
+    let added = make(&rt, &["INSERT INTO form VALUES (1)"]);
+    assert!(rt; added.is_err());
+    let kept = make(&rt, &["INSERT INTO note VALUES ('kept')"]);
+    assert!(rt; kept.is_ok());
+    clear(&rt, &FORMED);
+}
