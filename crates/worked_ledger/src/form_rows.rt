@@ -1,7 +1,7 @@
 use crate::file_rows::clear;
 use ds_ledger::FileShelf;
 use ds_ledger_base::{LedgerFault, Shelf};
-use sqlite::{Connection, Error};
+use sqlite::{Connection, Error, ErrorCode};
 use std::alloc::{AllocError, Global};
 use std::process::Abort;
 
@@ -88,13 +88,20 @@ fn make(rt: &HostRuntime, statements: &[&str]) -> Result<(), Error> {
     conn.close()
 }
 
+/// The statements that make what each form has otherwise: the table of commands, the view, and the form's version.
+fn statements_of(alloc: Global, form: &Form) -> Result<[String; 3], AllocError> {
+    Ok([
+        command_table(alloc, form.moment)?,
+        held_view(alloc, form.held)?,
+        format!(in alloc; "INSERT INTO form VALUES ({})", form.version)?,
+    ])
+}
+
 /// Makes a database of a form there.
-fn make_form(rt: &HostRuntime, form: &Form) {
-    let alloc = rt.alloc();
-    let command = command_table(alloc, form.moment).expect(rt, "memory");
-    let held = held_view(alloc, form.held).expect(rt, "memory");
-    let version =
-        format!(in alloc; "INSERT INTO form VALUES ({})", form.version).expect(rt, "memory");
+fn make_form(rt: &HostRuntime, form: &Form) -> Result<(), Error> {
+    let Ok([command, held, version]) = statements_of(rt.alloc(), form) else {
+        return Err(Error::SqliteFailure(ErrorCode::OutOfMemory));
+    };
     let statements = [
         command.as_str(),
         "CREATE TABLE form (version INTEGER PRIMARY KEY) STRICT",
@@ -102,8 +109,7 @@ fn make_form(rt: &HostRuntime, form: &Form) {
         version.as_str(),
         form.more,
     ];
-    let made = make(rt, &statements);
-    assert!(rt; made.is_ok(), "{}", form.name);
+    make(rt, &statements)
 }
 
 /// Expects that a database which is made there is refused for its form, each time that it is opened.
@@ -119,7 +125,7 @@ fn expect_refused<S: Shelf>(rt: &(impl Abort + AllocGlobal), shelf: &S, name: &s
 #[test]
 fn a_database_of_the_form_is_a_ledger(rt: HostRuntime) {
     clear(&rt, &FORMED);
-    make_form(&rt, &OWN);
+    assert!(rt; make_form(&rt, &OWN).is_ok());
     let shelf = FileShelf::new(&rt);
     let (ledger, commands) = shelf.open(rt.alloc(), FORMED[0]).expect(&rt, "a ledger");
     assert!(rt; commands.is_empty());
@@ -132,7 +138,7 @@ fn a_database_of_the_form_is_a_ledger(rt: HostRuntime) {
 fn a_database_of_another_form_is_refused(rt: HostRuntime) {
     for form in &OTHERS {
         clear(&rt, &FORMED);
-        make_form(&rt, form);
+        assert!(rt; make_form(&rt, form).is_ok(), "{}", form.name);
         expect_refused(&rt, &FileShelf::new(&rt), form.name);
     }
     clear(&rt, &FORMED);
