@@ -150,7 +150,7 @@ fn a_database_of_something_else_gets_no_table(rt: HostRuntime) {
     let made = make(&rt, &["CREATE TABLE note (title TEXT)"]);
     assert!(rt; made.is_ok());
     expect_refused(&rt, &FileShelf::new(&rt), "notes");
-    let added = make(&rt, &["INSERT INTO form VALUES (1)"]);
+    let added = make(&rt, &["INSERT INTO form VALUES (2)"]);
     assert!(rt; added.is_err());
     let kept = make(&rt, &["INSERT INTO note VALUES ('kept')"]);
     assert!(rt; kept.is_ok());
