@@ -20,6 +20,9 @@
 # answered, `dsedge: book Write` is told with status 4, and once the files are back the next broker has what was
 # answered.
 #
+# Locks: by `strace` each lock is granted, as on a file system whose locks keep nobody off. `drive` and `book` tell
+# `dsedge: book Busy` with status 4.
+#
 # Disks: on a tmpfs of 4, 8, .. 512 KiB the broker sells until it is full. All that it answered is there, on that disk
 # or as it tells that it cannot be read there, and in a copy with room. This needs the right to mount, or namespaces
 # of users.
@@ -93,10 +96,26 @@ takes() {
     rm -r "$room"
 }
 
+# Looks that a command with a book refuses its file where each lock is granted.
+unlocked() {
+    local told status
+    told=$(echo list | strace -f -o /dev/null -e trace=fcntl -e inject=fcntl:retval=0 "$program" "$@" 2>&1)
+    status=$?
+    if [ "$status" -eq 4 ] && [ "$told" = 'dsedge: book Busy' ]; then
+        echo "locks: $1: a file is refused where each lock is granted"
+    else
+        echo "locks: $1: status $status, told $told"
+        failed=1
+    fi
+}
+
 failed=0
 takes 'the file is moved away' 'mv book.db away' 'mv away book.db'
 takes 'a copy takes its place' 'cp book.db copy && mv book.db away && mv copy book.db' 'mv away book.db'
 takes 'its log is moved away' 'mv book.db-wal away' 'mv away book.db-wal'
+echo 'reserve a' | "$program" drive "$folder/small.toml" --book "$folder/book.db" > /dev/null || failed=1
+unlocked drive "$folder/small.toml" --book "$folder/book.db"
+unlocked book "$folder/small.toml" "$folder/book.db"
 "$folder/judge" bytes "$program" "$folder/small.toml" "$folder/small" "$folder/room" "$step" "$at_once" || failed=1
 "$folder/judge" calls "$program" "$folder/small.toml" "$folder/small" "$folder/room" || failed=1
 "$folder/judge" copying "$program" "$folder/large.toml" "$folder/large" "$folder/room" || failed=1
