@@ -62,18 +62,22 @@ const OTHERS: [Form; 6] = [
 
 /// The statement that makes the table of commands.
 fn command_table(alloc: Global, moment: &str) -> Result<String, AllocError> {
-    format!(in alloc; "CREATE TABLE command (serial INTEGER PRIMARY KEY, done TEXT, id INTEGER, moment {moment}, \
+    format!(in alloc;
+        "CREATE TABLE command (serial INTEGER PRIMARY KEY, done TEXT, id INTEGER, moment {moment}, \
     name TEXT, port TEXT, path TEXT, class INTEGER, kind TEXT, mode TEXT, cir INTEGER, cbs INTEGER, pir INTEGER, \
     pbs INTEGER, eir INTEGER, ebs INTEGER, since INTEGER, until INTEGER, src ANY, src_length INTEGER, dst ANY, \
     dst_length INTEGER, protocol INTEGER, sport_low INTEGER, sport_high INTEGER, dport_low INTEGER, dport_high \
-    INTEGER, dscp INTEGER) STRICT")
+    INTEGER, dscp INTEGER) STRICT"
+    )
 }
 
 /// The statement that makes the view of what is held.
 fn held_view(alloc: Global, end: &str) -> Result<String, AllocError> {
-    format!(in alloc; "CREATE VIEW held AS SELECT id, name, port, path, class, kind, mode, cir, cbs, pir, pbs, eir, \
+    format!(in alloc;
+        "CREATE VIEW held AS SELECT id, name, port, path, class, kind, mode, cir, cbs, pir, pbs, eir, \
     ebs, since, until, (SELECT moment FROM command AS ended WHERE ended.done = 'release' AND ended.id = command.id) \
-    AS released FROM command WHERE done = 'reserve' AND id NOT IN (SELECT id FROM command WHERE done = 'retire'){end}")
+    AS released FROM command WHERE done = 'reserve' AND id NOT IN (SELECT id FROM command WHERE done = 'retire'){end}"
+    )
 }
 
 /// Where the file stands, and its log.
