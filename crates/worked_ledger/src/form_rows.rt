@@ -80,12 +80,9 @@ fn held_view(alloc: Global, end: &str) -> Result<String, AllocError> {
     )
 }
 
-/// Where the file stands, and its log.
-const FORMED: [&str; 2] = ["worked_ledger_formed.db", "worked_ledger_formed.db-wal"];
-
-/// Makes a database there by statements.
-fn make(rt: &HostRuntime, statements: &[&str]) -> Result<(), Error> {
-    let mut conn = Connection::open_with_sums(rt, FORMED[0])?;
+/// Makes a database in the file of a path by statements.
+fn make(rt: &HostRuntime, path: &str, statements: &[&str]) -> Result<(), Error> {
+    let mut conn = Connection::open_with_sums(rt, path)?;
     for statement in statements {
         conn.execute_batch(statement)?;
     }
@@ -101,8 +98,8 @@ fn statements_of(alloc: Global, form: &Form) -> Result<[String; 3], AllocError> 
     ])
 }
 
-/// Makes a database of a form there.
-fn make_form(rt: &HostRuntime, form: &Form) -> Result<(), Error> {
+/// Makes a database of a form in the file of a path.
+fn make_form(rt: &HostRuntime, path: &str, form: &Form) -> Result<(), Error> {
     let Ok([command, held, version]) = statements_of(rt.alloc(), form) else {
         return Err(Error::SqliteFailure(ErrorCode::OutOfMemory));
     };
@@ -113,23 +110,26 @@ fn make_form(rt: &HostRuntime, form: &Form) -> Result<(), Error> {
         version.as_str(),
         form.more,
     ];
-    make(rt, &statements)
+    make(rt, path, &statements)
 }
 
-/// Expects that a database which is made there is refused for its form, each time that it is opened.
-fn expect_refused<S: Shelf>(rt: &(impl Abort + AllocGlobal), shelf: &S, name: &str) {
+/// Expects that the database of a path is refused for its form, each time that it is opened.
+fn expect_refused<S: Shelf>(rt: &(impl Abort + AllocGlobal), shelf: &S, path: &str, name: &str) {
     for _ in 0..2 {
-        let opened = shelf.open(rt.alloc(), FORMED[0]);
+        let opened = shelf.open(rt.alloc(), path);
         assert!(rt; matches!(opened, Err(LedgerFault::Form)), "{name}");
-        let told = shelf.commands(rt.alloc(), FORMED[0]);
+        let told = shelf.commands(rt.alloc(), path);
         assert!(rt; matches!(told, Err(LedgerFault::Form)), "{name}");
     }
 }
 
+/// Where a database of a ledger's form stands, and its log.
+const FORMED: [&str; 2] = ["worked_ledger_formed.db", "worked_ledger_formed.db-wal"];
+
 #[test]
 fn a_database_of_the_form_is_a_ledger(rt: HostRuntime) {
     clear(&rt, &FORMED);
-    assert!(rt; make_form(&rt, &OWN).is_ok());
+    assert!(rt; make_form(&rt, FORMED[0], &OWN).is_ok());
     let shelf = FileShelf::new(&rt);
     let (ledger, commands) = shelf.open(rt.alloc(), FORMED[0]).expect(&rt, "a ledger");
     assert!(rt; commands.is_empty());
@@ -138,25 +138,34 @@ fn a_database_of_the_form_is_a_ledger(rt: HostRuntime) {
     clear(&rt, &FORMED);
 }
 
+/// Where those of other forms stand.
+const MISFORMED: [&str; 2] = [
+    "worked_ledger_misformed.db",
+    "worked_ledger_misformed.db-wal",
+];
+
 #[test]
 fn a_database_of_another_form_is_refused(rt: HostRuntime) {
     for form in &OTHERS {
-        clear(&rt, &FORMED);
-        assert!(rt; make_form(&rt, form).is_ok(), "{}", form.name);
-        expect_refused(&rt, &FileShelf::new(&rt), form.name);
+        clear(&rt, &MISFORMED);
+        assert!(rt; make_form(&rt, MISFORMED[0], form).is_ok(), "{}", form.name);
+        expect_refused(&rt, &FileShelf::new(&rt), MISFORMED[0], form.name);
     }
-    clear(&rt, &FORMED);
+    clear(&rt, &MISFORMED);
 }
+
+/// Where one of something else stands.
+const NOTES: [&str; 2] = ["worked_ledger_notes.db", "worked_ledger_notes.db-wal"];
 
 #[test]
 fn a_database_of_something_else_gets_no_table(rt: HostRuntime) {
-    clear(&rt, &FORMED);
-    let made = make(&rt, &["CREATE TABLE note (title TEXT)"]);
+    clear(&rt, &NOTES);
+    let made = make(&rt, NOTES[0], &["CREATE TABLE note (title TEXT)"]);
     assert!(rt; made.is_ok());
-    expect_refused(&rt, &FileShelf::new(&rt), "notes");
-    let added = make(&rt, &["INSERT INTO form VALUES (2)"]);
+    expect_refused(&rt, &FileShelf::new(&rt), NOTES[0], "notes");
+    let added = make(&rt, NOTES[0], &["INSERT INTO form VALUES (2)"]);
     assert!(rt; added.is_err());
-    let kept = make(&rt, &["INSERT INTO note VALUES ('kept')"]);
+    let kept = make(&rt, NOTES[0], &["INSERT INTO note VALUES ('kept')"]);
     assert!(rt; kept.is_ok());
-    clear(&rt, &FORMED);
+    clear(&rt, &NOTES);
 }
