@@ -1,4 +1,5 @@
 -- What an error of the database is told as.
+use Rattle.std.specs.Prelude.{⊤, Result, Ok, Err}
 use Rattle.sqlite.specs.declared.error.Error.{Error}
 use Rattle.sqlite.specs.declared.error.Error.TheVariants.{SqliteFailure}
 use Rattle.sqlite.specs.declared.error.ErrorCode.TheVariants as codes
@@ -22,3 +23,9 @@ fault_of_read _ = faults.Damaged
 abbrev pub fault_of_write : Error → LedgerFault
 fault_of_write (SqliteFailure codes.OutOfMemory) = faults.NoMemory
 fault_of_write _ = faults.Write
+
+-- what a second opening tells of the lock of the first: it holds where that is refused as busy
+abbrev pub lock_of : {T : Type 0} → Result T LedgerFault → Result ⊤ LedgerFault
+lock_of (Ok opened) = Err faults.Busy
+lock_of (Err faults.Busy) = Ok tt
+lock_of (Err fault) = Err fault

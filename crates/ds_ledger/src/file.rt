@@ -1,8 +1,12 @@
-ghost use Rattle.std.specs.Prelude.{◌≡◌, IfOk};
-ghost use Rattle.sqlite.specs.Files.{file_state};
+ghost use Rattle.std.specs.Prelude.{◌≡◌, ◌⊎◌, Err, IfErr, IfOk, IsOk, OnOk};
+ghost use Rattle.sqlite.specs.Files.{IsOpened, file_state};
+ghost use Rattle.sqlite.specs.Start.{FindsIn};
+ghost use Rattle.sqlite.specs.Held.{state};
 ghost use Rattle.sqlite.specs.State.{HasCleanDisk};
 ghost use Rattle.sqlite.specs.WalFiles.{image_at};
+ghost use Rattle.ds_ledger.specs.Faults.{lock_of};
 ghost use Rattle.ds_ledger.specs.Kept.{IsTold, Keeps, Outlasts, WasFoundIn};
+ghost use Rattle.ds_ledger.specs.Opened.{IsReadOver, IsUnreadOver};
 
 use crate::fault::fault_of_open;
 use crate::ledger::{End, SqlLedger};
@@ -10,7 +14,7 @@ use crate::reading::{commands_over, ledger_over};
 use crate::site::{Identity, Site, identity_at};
 use ds_broker::Command;
 use ds_ledger_base::{Ledger, LedgerFault, Shelf};
-use sqlite::{Connection, FileFrom, FileStore, Start, Wary};
+use sqlite::{Alter, Connection, FileFrom, FileStore, Start, Wary};
 use std::alloc::Global;
 use std::fs::{self, OpenOptions};
 use std::io::ErrorKind;
@@ -57,16 +61,32 @@ fn find_file(rt: &HostRuntime, alloc: Global, path: &str) -> Result<(), LedgerFa
     Ok(())
 }
 
-/// Looks whether the lock of a file that is open holds: it is opened once more, and is refused as one that is kept.
+/// The database in the file of a path. `S` stands for what the file and its log hold now, and for how a crash is read.
 ///
-/// Refused: `Busy` where it can be opened, and else as the database names it.
-fn expect_lock(rt: &HostRuntime, path: &str) -> Result<(), LedgerFault> {
-    match Connection::open_from(rt, path, true, Wary) {
+/// Refused as the database names it.
+fn open_file<S: Start>(
+    rt: &HostRuntime,
+    path: &str,
+    start: S,
+) -> Result<Connection<FileStore<FileFrom<S>>>, LedgerFault>
+    ensures opened { IfOk result (λ conn. HasCleanDisk (file_state conn) → IsOpened conn) }
+    ensures found { IfOk result (λ conn. HasCleanDisk (file_state conn) → FindsIn (image_at S.Start) (file_state conn)) }
+{
+    match Connection::open_from(rt, path, true, start) {
+        Ok(conn) => Ok(conn),
+        Err((error, _)) => Err(fault_of_open(error)),
+    }
+}
+
+/// What an opening of a file that is open already tells of its lock, which it has to find busy: `Busy` where the file could
+/// be opened, and else why it was refused.
+fn expect_busy<T: Drop>(opened: Result<T, LedgerFault>) -> Result<(), LedgerFault>
+    ensures { result ≡ lock_of opened }
+{
+    match opened {
         Ok(_) => Err(LedgerFault::Busy),
-        Err((error, _)) => match fault_of_open(error) {
-            LedgerFault::Busy => Ok(()),
-            fault => Err(fault),
-        },
+        Err(LedgerFault::Busy) => Ok(()),
+        Err(fault) => Err(fault),
     }
 }
 
@@ -76,12 +96,14 @@ fn site_of(
     alloc: Global,
     path: &str,
     before: Identity,
+    lock: Result<(), LedgerFault>,
 ) -> Result<Site, LedgerFault>
     ensures before { IfOk result (λ site. site.opened.database ≡ before) }
     ensures found { IfOk result (λ site. site.found ≡ site.opened) }
+    ensures lock { OnOk result (IsOk lock) }
 {
     let site = Site::new(rt, alloc, path, before)?;
-    expect_lock(rt, path)?;
+    lock?;
     Ok(site)
 }
 
@@ -137,6 +159,22 @@ impl Ledger for FileLedger<'_> {
     }
 }
 
+/// The commands in a database whose lock was looked for. Refused as its lock is, else as the ledger in it would be.
+fn commands_locked<S: Alter + Drop>(
+    alloc: Global,
+    conn: Connection<S>,
+    lock: Result<(), LedgerFault>,
+) -> Result<Vec<Command>, LedgerFault>
+    ensures read { IfOk result (λ commands. IsReadOver S.Store conn commands.items) }
+    ensures lock { OnOk result (IsOk lock) }
+    ensures refused { IfErr result (λ fault. (lock ≡ Err fault) ⊎ IsUnreadOver S.Store conn fault) }
+{
+    if let Err(fault) = lock {
+        return Err(fault);
+    }
+    commands_over(alloc, conn)
+}
+
 /// The ledger in the file of a path, with the commands that it keeps. A file that is not there is made, for its owner
 /// alone. `S` stands for what the file and its log hold now, and for how a crash is read.
 ///
@@ -156,10 +194,8 @@ pub fn open_ledger<S: Start>(
         Outlasts (file_state opened.0.conn) opened.1.items) }
 {
     make_file(rt, path)?;
-    match Connection::open_from(rt, path, true, start) {
-        Ok(conn) => ledger_over(alloc, conn),
-        Err((error, _)) => Err(fault_of_open(error)),
-    }
+    let conn = open_file(rt, path, start)?;
+    ledger_over(alloc, conn)
 }
 
 /// The ledgers in files, by their paths, read as ones whose torn writes may leave anything.
@@ -190,7 +226,8 @@ impl<'a> Shelf for FileShelf<'a> {
         make_file(self.rt, name)?;
         let before = identity_at(self.rt, name)?;
         let (rows, commands) = open_ledger(self.rt, alloc, name, Wary)?;
-        match site_of(self.rt, alloc, name, before) {
+        let lock = expect_busy(open_file(self.rt, name, Wary));
+        match site_of(self.rt, alloc, name, before, lock) {
             Ok(site) => {
                 let located = rows.end;
                 let ledger = FileLedger {
@@ -208,12 +245,8 @@ impl<'a> Shelf for FileShelf<'a> {
     /// A file that is empty, with no log beside it, is of another form. `Busy` where its lock does not hold.
     fn commands(&self, alloc: Global, name: &str) -> Result<Vec<Command>, LedgerFault> {
         find_file(self.rt, alloc, name)?;
-        match Connection::open_from(self.rt, name, true, Wary) {
-            Ok(conn) => match expect_lock(self.rt, name) {
-                Ok(()) => commands_over(alloc, conn),
-                Err(fault) => Err(fault),
-            },
-            Err((error, _)) => Err(fault_of_open(error)),
-        }
+        let conn = open_file(self.rt, name, Wary)?;
+        let lock = expect_busy(open_file(self.rt, name, Wary));
+        commands_locked(alloc, conn, lock)
     }
 }

@@ -206,6 +206,8 @@ fn judge(
 impl<'a> Command for AuditCommand<'a> {
     ghost answer = { λ c number lines. audit_from c.in_json c.table c.stage number lines };
 
+    ghost stops = { λ _ _ _ _ _ it. it };
+
     #[tactic(auto, using(crate::proofs::AuditLaws::bad_line))]
     fn line(
         &mut self,

@@ -10,9 +10,11 @@ use Rattle.ds_broker.specs.Books.{Book}
 use Rattle.ds_broker.specs.declared.command.Command.{Command}
 use Rattle.ds_ledger_base.specs.Replays.{replay}
 use Rattle.ds_desk.proofs.Fronts.{prefix_self, prefix_trans, prefixes_begin, take_begins}
+use Rattle.dsedge_lines.specs.Courses.{IsHandedOver, StaysOn, left_behind, left_by, left_front}
 use Rattle.dsedge_lines.specs.Fronts.{IsFirstLine}
 use Rattle.dsedge_lines.specs.declared.command.Ending.{Ending}
-use Rattle.dsedge_drive.specs.Again.{AreAnswersFound, Follows, FollowsAll, HasAnswered, HasGiven, StaysGiven, answered, with_line}
+use Rattle.dsedge_lines.proofs.FrontLemmas.{first_of_lines}
+use Rattle.dsedge_drive.specs.Again.{AreAnswersFound, Follows, FollowsAll, FollowsFront, FollowsLine, HasAnswered, HasGiven, IsUnasked, IsWrittenAgain, StandsIn, StaysGiven, answered, beginning, with_line}
 use Rattle.dsedge_drive.specs.Driven.{Reply, replied}
 use Rattle.dsedge_drive.specs.Kept.{IsFoundAgain, Selling, emptied, with_reply}
 use Rattle.dsedge_drive.specs.Opened.{HasGrown, IsFurtherKept, IsGrown}
@@ -261,3 +263,74 @@ module _ (all lines left : List (List ℕ)) (parts : all ≡ lines ++ left) (in_
       → HasAnswered in_json from lines out s → (more : List (List ℕ)) × (all ≡ more ++ later) × HasAnswered in_json from more written new
   answered_further line later written new first next it =
       (lines ++ line ∷ [], parts ∙ ap (λ ls. lines ++ ls) first ∙ sym (append_assoc lines (line ∷ []) later), next in_json from lines [] it)
+
+-- before its first line, where nothing is held back and all is kept
+pub stands_first : (s : Selling) (lines : List (List ℕ)) → IsUnasked s → StandsIn s lines (Some lines) [] s
+stands_first s lines first =
+    let answered = nothing_given s [] first.said first.kept in (given_more s.in_json (beginning s) [] lines [] s answered.gave, ([], refl, answered))
+
+-- and what an open finds of what it wrote
+pub written_again : (start s : Selling) (lines : List (List ℕ)) (found : List Command) (before after : List ℕ) → AreAnswersFound s found
+    → IsHandedOver (λ text. StandsIn start lines None text s) before after → IsWrittenAgain start lines found before after
+written_again start s lines found before after again it = record {
+  text = it.text;
+  holds = again start.in_json (beginning start) lines it.text it.holds.0;
+  front = it.front;
+  more = it.more;
+  whole = it.whole;
+  given = it.given;
+}
+
+-- A broker stays on its courses: by a call that answers a line, one that may answer the first of a text, and at the end.
+module _ (s new : Selling) (out written : List ℕ) where
+  -- behind these lines, and others that are left
+  behind_all : (start : Selling) (whole lines left : List (List ℕ)) (given : List ℕ) → whole ≡ lines ++ left → HasAnswered start.in_json (beginning start) lines given new
+      → StandsIn start whole (Some left) given new
+  behind_all start whole lines left given parts it =
+      (given-of-all whole lines left parts start.in_json (beginning start) given new given new it.gave, (lines, parts, it))
+
+  pub stopped_by : {more : List (List ℕ)} → Follows [] s out new written → StaysOn StandsIn s out (Some more) new written None
+  stopped_by {more} follows start whole front (gave, (lines, parts, it)) =
+      let none = subst (λ ls. HasAnswered start.in_json (beginning start) ls (front ++ written) new) (append-nil lines) (follows start.in_json (beginning start) lines front it) in
+      ((behind_all start whole lines more (front ++ written) parts none).0, tt)
+
+  failed_by : {more : List (List ℕ)} → StaysGiven s out new written → StaysOn StandsIn s out (Some more) new written None
+  failed_by {more} stays start whole front (gave, (lines, parts, it)) =
+      (given-of-all whole lines more parts start.in_json (beginning start) (front ++ out) s (front ++ written) new (stays start.in_json (beginning start) lines front it), tt)
+
+  pub further_by : (line : List ℕ) (later : List (List ℕ)) → Follows (line ∷ []) s out new written → StaysOn StandsIn s out (Some (line ∷ later)) new written (Some later)
+  further_by line later follows start whole front (gave, (lines, parts, it)) =
+      behind_all start whole (lines ++ line ∷ []) later (front ++ written) (parts ∙ sym (append_assoc lines (line ∷ []) later)) (follows start.in_json (beginning start) lines front it)
+
+  same_by : {more : List (List ℕ)} → Follows [] s out new written → StaysOn StandsIn s out (Some more) new written (Some more)
+  same_by {more} follows start whole front (gave, (lines, parts, it)) =
+      behind_all start whole lines more (front ++ written) parts
+      (subst (λ ls. HasAnswered start.in_json (beginning start) ls (front ++ written) new) (append-nil lines) (follows start.in_json (beginning start) lines front it))
+
+  pub stands_by_line : {E : Type 0} (result : Result (Option Ending) E) (line : List ℕ) (later : List (List ℕ)) → FollowsLine result line s out new written
+      → StaysOn StandsIn s out (Some (line ∷ later)) new written (left_by result later)
+  stands_by_line (Ok None) line later follows = further_by line later follows
+  stands_by_line (Ok (Some ending)) line later follows = stopped_by follows
+  stands_by_line (Err e) line later stays = failed_by stays
+
+  pub further_by_front : (text line rest later : List ℕ) → IsFirstLine text line rest → Follows (line ∷ []) s out new written
+      → StaysOn StandsIn s out (Some (lines_of (text ++ later))) new written (Some (lines_of (rest ++ later)))
+  further_by_front text line rest later first follows =
+      subst (λ more. StaysOn StandsIn s out (Some more) new written (Some (lines_of (rest ++ later)))) (sym (first_of_lines first later))
+      (further_by line (lines_of (rest ++ later)) follows)
+
+  stands-behind : {R : Type 0} (ended : Option Ending) (rest : R) (text later : List ℕ) (bytes : R → List ℕ)
+      → MatchOption ended ((line : List ℕ) × IsFirstLine text line (bytes rest) × Follows (line ∷ []) s out new written) (λ _. Follows [] s out new written)
+      → StaysOn StandsIn s out (Some (lines_of (text ++ later))) new written (left_behind ended rest (λ r. lines_of (bytes r ++ later)))
+  stands-behind None rest text later bytes (line, first, follows) = further_by_front text line (bytes rest) later first follows
+  stands-behind (Some ending) rest text later bytes follows = stopped_by follows
+
+  pub stands_by_front : {R E : Type 0} (result : Result (Option (Option Ending × R)) E) (text later : List ℕ) (bytes : R → List ℕ) → FollowsFront result text bytes s out new written
+      → StaysOn StandsIn s out (Some (lines_of (text ++ later))) new written (left_front result (lines_of (text ++ later)) (λ r. lines_of (bytes r ++ later)))
+  stands_by_front (Ok None) text later bytes follows = same_by follows
+  stands_by_front (Ok (Some parts)) text later bytes follows = stands-behind parts.0 parts.1 text later bytes follows
+  stands_by_front (Err e) text later bytes stays = failed_by stays
+
+  pub stands_at_end : {E : Type 0} (result : Result Ending E) → FollowsAll result s out new written → StaysOn StandsIn s out (Some []) new written None
+  stands_at_end (Ok ending) follows = stopped_by follows
+  stands_at_end (Err e) stays = failed_by stays

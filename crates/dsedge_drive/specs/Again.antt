@@ -1,9 +1,10 @@
 -- What was answered to lines and given out, and that an open finds it again.
-use Rattle.std.specs.Prelude.{◌≡◌, ◌≤◌, ℕ, Bool, List, [], ◌∷◌, ◌++◌, fold, length, take, option_and_then, option_map, MatchOption, MatchResult, Option, Some, Result, Ok}
+use Rattle.std.specs.Prelude.{◌≡◌, ◌≤◌, ℕ, Bool, List, [], ◌∷◌, ◌++◌, fold, length, take, option_and_then, option_map, MatchOption, MatchResult, Option, Some, Result, Ok, ⊤}
 use mathlib.Core.List.{IsPrefix}
 use Rattle.line_text.specs.Lines.{lines_of}
 use Rattle.ds_broker.specs.declared.command.Command.{Command}
 use Rattle.ds_ledger_base.specs.Replays.{replay}
+use Rattle.dsedge_lines.specs.Courses.{IsHandedOver}
 use Rattle.dsedge_lines.specs.Fronts.{IsFirstLine}
 use Rattle.dsedge_lines.specs.declared.command.Ending.{Ending}
 use Rattle.dsedge_drive.specs.Driven.{Reply, replied}
@@ -102,3 +103,25 @@ FollowsFirst result text rest old out new written =
 abbrev pub FollowsAll : {E : Type 0} → Result Ending E → Selling → List ℕ → Selling → List ℕ → Type 0
 FollowsAll result old out new written =
     MatchResult result (λ _. Follows [] old out new written) (λ _. StaysGiven old out new written)
+
+-- what is answered with, from a broker on that gave nothing out
+abbrev pub beginning : Selling → Reply
+beginning start = record { text = []; offered = start.offered; book = start.book }
+
+-- Where a broker stands in the lines of its whole input, from one that it once was: what was given out is what the first
+-- of them are answered with, and kept; and where it has not stopped, it is behind all but those that are left.
+abbrev pub StandsIn : Selling → List (List ℕ) → Option (List (List ℕ)) → List ℕ → Selling → Type 0
+StandsIn start whole left given s = HasGiven start.in_json (beginning start) whole given s
+    × MatchOption left ⊤ (λ left. (lines : List (List ℕ)) × (whole ≡ lines ++ left)
+    × HasAnswered start.in_json (beginning start) lines given s)
+
+-- a broker before its first line: nothing is held back, and all is kept
+pub record IsUnasked (s : Selling) : Type 0 where
+  pub said : s.unsaid ≡ []
+  pub kept : s.kept ≡ length s.book.history
+
+-- What was written is what the first lines of an input were answered with, from a broker on, or a front of that. What an
+-- open finds has every command that these lines had accepted; and the domain makes of it the book that it was then.
+abbrev pub IsWrittenAgain : Selling → List (List ℕ) → List Command → List ℕ → List ℕ → Type 0
+IsWrittenAgain start lines found before after =
+    IsHandedOver (λ given. IsAnsweredAgain start.in_json (beginning start) lines given found) before after

@@ -2,7 +2,8 @@ ghost use Rattle.std.specs.Prelude.{◌≡◌, ℕ, ◌+◌, ◌<◌, List, [], 
 ghost use Rattle.std.specs.Prelude.{None, Some, is_some, length, take, option_and_then, option_map, slice_get};
 ghost use Rattle.line_text.specs.Lines.{has_byte, lines_of};
 ghost use Rattle.dsedge_lines.specs.Answers.{Answers, AnswersAll, AnswersFront, behind};
-ghost use Rattle.dsedge_drive.specs.Again.{AreAnswersFound, FollowsAll, FollowsFront, FollowsLine};
+ghost use Rattle.dsedge_lines.specs.Courses.{StaysOn, left_by, left_front};
+ghost use Rattle.dsedge_drive.specs.Again.{AreAnswersFound, FollowsAll, FollowsFront, FollowsLine, StandsIn};
 ghost use Rattle.dsedge_drive.specs.Opened.{HasGrown, IsFurtherKept, IsGrown, IsKeptOr, IsOpened, IsUnopened};
 ghost use Rattle.dsedge_drive.specs.Opened.{answer_behind};
 ghost use Rattle.ds_broker.specs.Entries.{entries_of};
@@ -151,8 +152,8 @@ impl<J: Naming, R: Wait + Drop, L: Ledger + Drop> DriveCommand<J, R, L> {
         self.keeper.ledger()
     }
 
-    /// Its ledger, at the end.
-    pub(crate) fn into_ledger(self) -> L
+    /// Its ledger, at the end. Whatever a crash leaves of it, the next open finds all again that was given out.
+    pub fn into_ledger(self) -> L
         ensures { L.honest result →
             (found : List commands.Command) → L.leaves result found → AreAnswersFound self found }
     {
@@ -441,6 +442,10 @@ fn look<J: Naming, R: Wait + Drop>(
 impl<J: Naming, R: Wait + Drop, L: Ledger + Drop> Command for DriveCommand<J, R, L> {
     ghost answer = { answer_behind };
 
+    ghost stands = { StandsIn };
+
+    ghost stops = { λ _ _ _ _ _ it. (it.0, tt) };
+
     #[tactic(auto, using(crate::proofs::DriveLaws::given_bad_line, crate::proofs::DriveLaws::given_line))]
     fn line(
         &mut self,
@@ -451,6 +456,9 @@ impl<J: Naming, R: Wait + Drop, L: Ledger + Drop> Command for DriveCommand<J, R,
         ensures answer { (later : List (List ℕ)) →
             Answers (behind out.old.items (answer_behind self.old number (line.now ∷ later)))
             (behind out.new.items (answer_behind self.new (number + 1) later)) out.new.items result }
+        ensures stands { (later : List (List ℕ)) →
+            StaysOn StandsIn self.old out.old.items (Some (line.now ∷ later))
+            self.new out.new.items (left_by result later) }
         ensures given { OnOk result (self.new.unsaid ≡ []) }
         ensures kept { IsKeptOr (out.new.items ≡ out.old.items) self.new }
         ensures follows { FollowsLine result line.now self.old out.old.items self.new out.new.items }
@@ -477,6 +485,10 @@ impl<J: Naming, R: Wait + Drop, L: Ledger + Drop> Command for DriveCommand<J, R,
             (behind out.new.items (answer_behind self.new number (lines_of (text.now ++ later))))
             (λ rest. behind out.new.items (answer_behind self.new (number + 1) (lines_of (rest.now ++ later))))
             out.new.items }
+        ensures stands { (later : List ℕ) →
+            StaysOn StandsIn self.old out.old.items (Some (lines_of (text.now ++ later)))
+            self.new out.new.items
+            (left_front result (lines_of (text.now ++ later)) (λ rest. lines_of (rest.now ++ later))) }
         ensures given { IfOk result (λ front. IfSome front (λ parts.
             has_byte 10 parts.1.now ≡ false → self.new.unsaid ≡ [])) }
         ensures kept { IsKeptOr (out.new.items ≡ out.old.items) self.new }
@@ -497,6 +509,7 @@ impl<J: Naming, R: Wait + Drop, L: Ledger + Drop> Command for DriveCommand<J, R,
     #[tactic(auto, using(crate::proofs::DriveLaws::given_last_line))]
     fn end(&mut self, number: u64, out: &mut Vec<u8>) -> Result<Ending, AllocError>
         ensures answer { AnswersAll (behind out.old.items (answer_behind self.old number [])) out.new.items result }
+        ensures stands { StaysOn StandsIn self.old out.old.items (Some []) self.new out.new.items None }
         ensures kept { IsKeptOr (out.new.items ≡ out.old.items) self.new }
         ensures follows { FollowsAll result self.old out.old.items self.new out.new.items }
     {

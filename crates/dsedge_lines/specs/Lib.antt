@@ -1,6 +1,7 @@
 -- What is answered to lines.
 pub mod Answers
 pub mod Codes
+pub mod Courses
 pub mod Faults
 pub mod FirstLine
 pub mod Fronts

@@ -1,4 +1,4 @@
-ghost use Rattle.std.specs.Prelude.{◌≡◌, ℕ, ◌+◌, ◌<◌, List, [], ◌∷◌, ◌++◌, length, IfOk, IfSome};
+ghost use Rattle.std.specs.Prelude.{◌≡◌, ℕ, ◌+◌, ◌<◌, List, [], ◌∷◌, ◌++◌, length, IfOk, IfSome, Option, None, Some};
 ghost use Rattle.line_text.specs.Lines.{lines_of};
 
 use std::alloc::AllocError;
@@ -19,9 +19,15 @@ pub enum Ending {
 /// A command that answers the lines of its input.
 pub trait Command {
     ghost use Rattle.dsedge_lines.specs.Answers.{Answer, behind, Answers, AnswersAll, AnswersFront};
+    ghost use Rattle.dsedge_lines.specs.Courses.{StaysOn, left_by, left_front};
 
     // What is answered from here on to these lines, the first of which has this number.
     ghost answer: { Self → ℕ → List (List ℕ) → Answer };
+
+    // Where a command stands in the lines of its whole input, from one that it once was: with these left to answer, where
+    // it has not stopped, and behind a text that it answered. Whatever this is, each call keeps it.
+    ghost stands: { Self → List (List ℕ) → Option (List (List ℕ)) → List ℕ → Self → Type 0 }
+        = { λ _ _ _ _ _. Unit {0} };
 
     /// Answers a line behind `out`, or says how the answer ends before it.
     ///
@@ -32,9 +38,12 @@ pub trait Command {
         line: &[u8],
         out: &mut Vec<u8>,
     ) -> Result<Option<Ending>, AllocError>
-        ensures { (later : List (List ℕ)) →
+        ensures answer { (later : List (List ℕ)) →
             Answers (behind out.old.items (answer self.old number (line.now ∷ later)))
-            (behind out.new.items (answer self.new (number + 1) later)) out.new.items result };
+            (behind out.new.items (answer self.new (number + 1) later)) out.new.items result }
+        ensures stands { (later : List (List ℕ)) →
+            StaysOn stands self.old out.old.items (Some (line.now ∷ later))
+            self.new out.new.items (left_by result later) };
 
     /// Answers the line at the front of a text behind `out`, where the command reads it together with its LF, and gives
     /// what stands behind that, or says how the answer ends before the line. Where it answers none, `line` is to do it.
@@ -52,6 +61,10 @@ pub trait Command {
             (behind out.new.items (answer self.new number (lines_of (text.now ++ later))))
             (λ rest. behind out.new.items (answer self.new (number + 1) (lines_of (rest.now ++ later))))
             out.new.items }
+        ensures stands { (later : List ℕ) →
+            StaysOn stands self.old out.old.items (Some (lines_of (text.now ++ later)))
+            self.new out.new.items
+            (left_front result (lines_of (text.now ++ later)) (λ rest. lines_of (rest.now ++ later))) }
     {
         Ok(None)
     }
@@ -61,5 +74,10 @@ pub trait Command {
     ///
     /// Where memory runs out, `out` holds a front of the answer, and the command is of no more use.
     fn end(&mut self, number: u64, out: &mut Vec<u8>) -> Result<Ending, AllocError>
-        ensures { AnswersAll (behind out.old.items (answer self.old number [])) out.new.items result };
+        ensures answer { AnswersAll (behind out.old.items (answer self.old number [])) out.new.items result }
+        ensures stands { StaysOn stands self.old out.old.items (Some []) self.new out.new.items None };
+
+    // A command that has lines left may stop there.
+    ghost stops: { (start : Self) (whole : List (List ℕ)) (left : Option (List (List ℕ))) (text : List ℕ) (now : Self)
+        → stands start whole left text now → stands start whole None text now };
 }

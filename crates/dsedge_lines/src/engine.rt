@@ -1,10 +1,11 @@
 ghost use Rattle.std.specs.Prelude.{◌≡◌, ◌≢◌, ℕ, ◌+◌, ◌^◌, ◌<◌, ◌≤◌, ◌⊎◌, true, false, List, ◌++◌, take, vec_len};
-ghost use Rattle.std.specs.Prelude.{Err, MatchResult, IfOk, IfNone, OnErr, OnOk, if◌then◌else◌};
+ghost use Rattle.std.specs.Prelude.{None, Some, Err, MatchResult, IfOk, IfNone, OnErr, OnOk, if◌then◌else◌};
 ghost use Rattle.line_text.specs.Lines.{lines_of, has_byte};
 ghost use Rattle.pcap_capture.specs.Counts.{IsOfReads, next_count};
 ghost use Rattle.dsedge_lines.specs.Answers.{Answers, BeginsWith};
 ghost use Rattle.dsedge_lines.specs.Faults.{is_read_fault, is_write_fault};
-ghost use Rattle.dsedge_lines.specs.Underway.{IsFresh, answer_with};
+ghost use Rattle.dsedge_lines.specs.Courses.{IsHandedOver, StaysOn, left_by};
+ghost use Rattle.dsedge_lines.specs.Underway.{IsFresh, answer_with, lines_with};
 
 use super::command::{Command, Ending};
 use super::fault::PumpFault;
@@ -34,6 +35,9 @@ pub fn answer_next<C: Command, I: Intake>(
     ensures answer { I.tells intake.old →
         Answers (answer_with (C.answer command.old) progress.old (I.left intake.old))
         (answer_with (C.answer command.new) progress.new (I.left intake.new)) progress.new.out.items result }
+    ensures stands { I.tells intake.old →
+        StaysOn C.stands command.old progress.old.out.items (Some (lines_with progress.old (I.left intake.old)))
+        command.new progress.new.out.items (left_by result (lines_with progress.new (I.left intake.new))) }
     ensures reads { IsOfReads (is_read_fault result) (I.failed intake.old) (I.failed intake.new) (I.calls intake.new) }
     ensures fewer { OnOk result (I.calls intake.new < I.calls intake.old) }
     ensures input { is_write_fault result ≡ false }
@@ -93,6 +97,13 @@ pub fn pump<C: Command, I: Intake, O: Outlet>(
     ensures front { I.tells intake.old → O.tells outlet.old → OnErr result (
         let whole = C.answer command.old 1 (lines_of (I.left intake.old)) in
         (front : List ℕ) × BeginsWith whole front × (O.held outlet.new ≡ O.held outlet.old ++ front)) }
+    // Wherever the command stood, with the lines of these bytes left, it has stopped behind a text that is handed over, or
+    // behind one of which a front is.
+    ensures stands { I.tells intake.old → O.tells outlet.old →
+        (start : C) (whole : List (List ℕ)) (front : List ℕ) →
+        C.stands start whole (Some (lines_of (I.left intake.old))) front command.old →
+        IsHandedOver (λ text. C.stands start whole None (front ++ text) command.new)
+        (O.held outlet.old) (O.held outlet.new) }
     // A fault of a device is answered only where it came, and then no other; that of the input also where it was spent.
     ensures write { O.failed outlet.new
         ≡ (if is_write_fault result then next_count (O.failed outlet.old) else O.failed outlet.old) }
@@ -125,6 +136,11 @@ fn pump_through<C: Command, I: Intake, O: Outlet>(
     ensures front { I.tells intake.old → O.tells outlet.old → OnErr result (
         let whole = C.answer command.old 1 (lines_of (I.left intake.old)) in
         (front : List ℕ) × BeginsWith whole front × (O.held outlet.new ≡ O.held outlet.old ++ front)) }
+    ensures stands { I.tells intake.old → O.tells outlet.old →
+        (start : C) (whole : List (List ℕ)) (front : List ℕ) →
+        C.stands start whole (Some (lines_of (I.left intake.old))) front command.old →
+        IsHandedOver (λ text. C.stands start whole None (front ++ text) command.new)
+        (O.held outlet.old) (O.held outlet.new) }
     ensures write { O.failed outlet.new
         ≡ (if is_write_fault result then next_count (O.failed outlet.old) else O.failed outlet.old) }
     ensures reads { IsOfReads (is_read_fault result) (I.failed intake.old) (I.failed intake.new) (I.calls intake.new) }

@@ -1,8 +1,9 @@
-ghost use Rattle.std.specs.Prelude.{◌≡◌, ℕ, ◌+◌, ◌^◌, ◌<◌, ◌≤◌, false, List, [], ◌∷◌, ◌++◌, length, IfOk, IfNone};
+ghost use Rattle.std.specs.Prelude.{◌≡◌, ℕ, ◌+◌, ◌^◌, ◌<◌, ◌≤◌, false, List, [], ◌∷◌, ◌++◌, length, IfOk, IfNone, None, Some};
 ghost use Rattle.std.specs.Prelude.{MatchOption};
 ghost use Rattle.line_text.specs.Lines.{has_byte};
 ghost use Rattle.dsedge_lines.specs.Answers.{Answers, AnswersAll, AnswersFront};
-ghost use Rattle.dsedge_lines.specs.Underway.{answer_with};
+ghost use Rattle.dsedge_lines.specs.Courses.{StaysOn, left_by, left_front};
+ghost use Rattle.dsedge_lines.specs.Underway.{answer_with, lines_with};
 
 use super::command::{Command, Ending};
 use line_text::cut;
@@ -28,6 +29,9 @@ fn answer_carried<C: Command>(
     requires carried { has_byte 10 progress.old.carry.items ≡ false }
     ensures answer { (later : List ℕ) → Answers (answer_with (C.answer command.old) progress.old (10 ∷ later))
         (answer_with (C.answer command.new) progress.new later) progress.new.out.items result }
+    ensures stands { (later : List ℕ) →
+        StaysOn C.stands command.old progress.old.out.items (Some (lines_with progress.old (10 ∷ later)))
+        command.new progress.new.out.items (left_by result (lines_with progress.new later)) }
     ensures carried { IfOk result (λ ended. IfNone ended (progress.new.carry.items ≡ [])) }
     ensures number { IfOk result (λ ended. IfNone ended (progress.new.number ≡ progress.old.number + 1)) }
 {
@@ -54,6 +58,9 @@ fn answer_line<C: Command>(
     ensures answer { (later : List ℕ) →
         Answers (answer_with (C.answer command.old) progress.old (rest.now ++ 10 ∷ later))
         (answer_with (C.answer command.new) progress.new later) progress.new.out.items result }
+    ensures stands { (later : List ℕ) →
+        StaysOn C.stands command.old progress.old.out.items (Some (lines_with progress.old (rest.now ++ 10 ∷ later)))
+        command.new progress.new.out.items (left_by result (lines_with progress.new later)) }
     ensures carried { IfOk result (λ ended. IfNone ended (progress.new.carry.items ≡ [])) }
     ensures number { IfOk result (λ ended. IfNone ended (progress.new.number ≡ progress.old.number + 1)) }
 {
@@ -80,6 +87,10 @@ fn answer_front<'a, C: Command>(
         (answer_with (C.answer command.old) progress.old (text.now ++ later))
         (answer_with (C.answer command.new) progress.new (text.now ++ later))
         (λ rest. answer_with (C.answer command.new) progress.new (rest.now ++ later)) progress.new.out.items }
+    ensures stands { (later : List ℕ) →
+        StaysOn C.stands command.old progress.old.out.items (Some (lines_with progress.old (text.now ++ later)))
+        command.new progress.new.out.items (left_front result (lines_with progress.new (text.now ++ later))
+        (λ rest. lines_with progress.new (rest.now ++ later))) }
     ensures unended { IfOk result (λ front. IfNone front (has_byte 10 text.now ≡ false)) }
     ensures carried { IfOk result (λ front. MatchOption front (has_byte 10 progress.new.carry.items ≡ false)
         (λ parts. IfNone parts.0 (has_byte 10 progress.new.carry.items ≡ false))) }
@@ -111,6 +122,9 @@ pub fn answer_piece<C: Command>(
     ensures answer { (later : List ℕ) →
         Answers (answer_with (C.answer command.old) progress.old (piece.now ++ later))
         (answer_with (C.answer command.new) progress.new later) progress.new.out.items result }
+    ensures stands { (later : List ℕ) →
+        StaysOn C.stands command.old progress.old.out.items (Some (lines_with progress.old (piece.now ++ later)))
+        command.new progress.new.out.items (left_by result (lines_with progress.new later)) }
     ensures carried { IfOk result (λ ended. IfNone ended (has_byte 10 progress.new.carry.items ≡ false)) }
     ensures number { IfOk result (λ ended. IfNone ended
         (progress.new.number ≤ progress.old.number + length piece.now)) }
@@ -133,7 +147,9 @@ pub fn answer_end<C: Command>(
 ) -> Result<Ending, AllocError>
     requires number { progress.old.number + 1 < 2 ^ 64 }
     requires carried { has_byte 10 progress.old.carry.items ≡ false }
-    ensures { AnswersAll (answer_with (C.answer command.old) progress.old []) progress.new.out.items result }
+    ensures answer { AnswersAll (answer_with (C.answer command.old) progress.old []) progress.new.out.items result }
+    ensures stands { StaysOn C.stands command.old progress.old.out.items (Some (lines_with progress.old []))
+        command.new progress.new.out.items None }
 {
     if progress.carry.is_empty() {
         return command.end(progress.number, &mut progress.out);

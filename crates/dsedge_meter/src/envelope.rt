@@ -133,6 +133,8 @@ impl EnvelopeCommand {
 impl Command for EnvelopeCommand {
     ghost answer = { verdict_behind };
 
+    ghost stops = { λ _ _ _ _ _ it. it };
+
     #[inline(always)]
     fn line(
         &mut self,

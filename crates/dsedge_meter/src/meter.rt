@@ -232,6 +232,8 @@ impl MeterCommand {
 impl Command for MeterCommand {
     ghost answer = { answer_of };
 
+    ghost stops = { λ _ _ _ _ _ it. it };
+
     #[inline(always)]
     fn line(
         &mut self,

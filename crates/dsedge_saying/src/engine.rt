@@ -1,7 +1,8 @@
-ghost use Rattle.std.specs.Prelude.{◌≡◌, ◌⊎◌, true, false, ℕ, [], ◌++◌, take, vec_len};
+ghost use Rattle.std.specs.Prelude.{◌≡◌, ◌⊎◌, true, false, ℕ, List, [], ◌++◌, take, vec_len, None, Some};
 ghost use Rattle.std.specs.Prelude.{MatchResult, OnOk, is_ok, if◌then◌else◌};
 ghost use Rattle.line_text.specs.Lines.{lines_of};
 ghost use Rattle.pcap_capture.specs.Counts.{IsOfReads, next_count};
+ghost use Rattle.dsedge_lines.specs.Courses.{IsHandedOver};
 ghost use Rattle.dsedge_lines.specs.Faults.{is_read_fault, is_write_fault};
 ghost use Rattle.dsedge_lines.specs.Underway.{IsFresh};
 ghost use Rattle.dsedge_saying.specs.Saying.{HasSaid, IsPumped};
@@ -43,6 +44,7 @@ fn settle<C: Speaker, O: Outlet, F: Outlet>(
     faults: &mut F,
 ) -> Result<Ending, PumpFault>
     requires { is_write_fault found ≡ false }
+    ensures same { command.new ≡ command.old }
     ensures outcome { (is_write_fault result ≡ true) ⊎ (result ≡ found) }
     ensures bytes { O.tells outlet.old → MatchResult result
         (λ _. O.held outlet.new ≡ O.held outlet.old ++ out.old.items)
@@ -73,6 +75,13 @@ pub fn pump_saying<C: Command + Speaker, I: Intake, O: Outlet, F: Outlet>(
     ensures written { I.tells intake.old → O.tells outlet.old →
         IsPumped (C.answer command.old 1 (lines_of (I.left intake.old))) result (O.held outlet.old)
         (O.held outlet.new) }
+    // Wherever the command stood, with the lines of these bytes left, it has stopped behind what is written, or behind a
+    // text of which that is a front.
+    ensures stands { I.tells intake.old → O.tells outlet.old →
+        (start : C) (whole : List (List ℕ)) (front : List ℕ) →
+        C.stands start whole (Some (lines_of (I.left intake.old))) front command.old →
+        IsHandedOver (λ text. C.stands start whole None (front ++ text) command.new)
+        (O.held outlet.old) (O.held outlet.new) }
     ensures write { O.failed outlet.new
         ≡ (if is_write_fault result then next_count (O.failed outlet.old) else O.failed outlet.old) }
     ensures reads { IsOfReads (is_read_fault result) (I.failed intake.old) (I.failed intake.new) (I.calls intake.new) }
@@ -97,6 +106,11 @@ fn pump_aloud<C: Command + Speaker, I: Intake, O: Outlet, F: Outlet>(
     ensures written { I.tells intake.old → O.tells outlet.old →
         IsPumped (C.answer command.old 1 (lines_of (I.left intake.old))) result (O.held outlet.old)
         (O.held outlet.new) }
+    ensures stands { I.tells intake.old → O.tells outlet.old →
+        (start : C) (whole : List (List ℕ)) (front : List ℕ) →
+        C.stands start whole (Some (lines_of (I.left intake.old))) front command.old →
+        IsHandedOver (λ text. C.stands start whole None (front ++ text) command.new)
+        (O.held outlet.old) (O.held outlet.new) }
     ensures write { O.failed outlet.new
         ≡ (if is_write_fault result then next_count (O.failed outlet.old) else O.failed outlet.old) }
     ensures reads { IsOfReads (is_read_fault result) (I.failed intake.old) (I.failed intake.new) (I.calls intake.new) }
@@ -127,6 +141,11 @@ fn pump_through<C: Command + Speaker, I: Intake, O: Outlet, F: Outlet>(
     ensures written { I.tells intake.old → O.tells outlet.old →
         IsPumped (C.answer command.old 1 (lines_of (I.left intake.old))) result (O.held outlet.old)
         (O.held outlet.new) }
+    ensures stands { I.tells intake.old → O.tells outlet.old →
+        (start : C) (whole : List (List ℕ)) (front : List ℕ) →
+        C.stands start whole (Some (lines_of (I.left intake.old))) front command.old →
+        IsHandedOver (λ text. C.stands start whole None (front ++ text) command.new)
+        (O.held outlet.old) (O.held outlet.new) }
     ensures write { O.failed outlet.new
         ≡ (if is_write_fault result then next_count (O.failed outlet.old) else O.failed outlet.old) }
     ensures reads { IsOfReads (is_read_fault result) (I.failed intake.old) (I.failed intake.new) (I.calls intake.new) }

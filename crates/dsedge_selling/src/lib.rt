@@ -3,4 +3,4 @@
 
 mod selling;
 
-pub use selling::{Manner, Place, answer_drive, answer_kept};
+pub use selling::{Manner, Place, answer_drive, answer_kept, sell_by};

@@ -3,6 +3,7 @@ ghost use Rattle.line_text.specs.Lines.{lines_of};
 ghost use Rattle.ds_domain.specs.DomainTexts.{parse_of};
 ghost use Rattle.ds_broker.specs.declared.command.Command as commands;
 ghost use Rattle.ds_ledger_base.specs.Replays.{replay};
+ghost use Rattle.dsedge_drive.specs.Again.{IsUnasked, IsWrittenAgain};
 ghost use Rattle.dsedge_drive.specs.Driven.{drive_from, opening_book};
 ghost use Rattle.pcap_capture.specs.Counts.{IsOfReads};
 ghost use Rattle.dsedge_lines.specs.Faults.{is_read_fault, is_write_fault};
@@ -181,34 +182,40 @@ fn sell<J: Naming, R: Wait, L: Ledger + Drop, I: Intake, O: Outlet, F: Outlet>(
     let (ledger, commands) = kept;
     let is_explained = sale.is_explained;
     match DriveCommand::<J, &R, L>::new(alloc, rt, opened, sale, ledger, commands) {
-        Ok(command) => sell_by(alloc, command, is_explained, intake, output, faults),
+        Ok(command) => {
+            let (sold, _ledger) = sell_by(alloc, command, is_explained, intake, output, faults);
+            sold
+        }
         Err(fault) => unopened(fault),
     }
 }
 
-/// Sells by a command before its first line.
+/// Sells by a command before its first line, and gives its ledger up. Whatever a crash leaves of that then, the next open
+/// finds every command that lines had accepted of whose answers anything was written.
 #[tactic(auto, using(crate::proofs::SaleLemmas::concluded_served, crate::proofs::SaleLemmas::concluded_faults))]
-fn sell_by<J: Naming, R: Wait + Drop, L: Ledger + Drop, I: Intake, O: Outlet, F: Outlet>(
+pub fn sell_by<J: Naming, R: Wait + Drop, L: Ledger + Drop, I: Intake, O: Outlet, F: Outlet>(
     alloc: Global,
     command: DriveCommand<J, R, L>,
     is_explained: bool,
     intake: &mut I,
     output: &mut O,
     faults: &mut F,
-) -> Result<Conclusion, PumpFault>
-    requires { command.unsaid ≡ [] }
-    ensures served { I.tells intake.old → O.tells output.old →
-        IsKeptServed (reply_of (drive_from command.in_json command.offered command.book 1 (lines_of (I.left intake.old)))) result
-        (O.held output.old) (O.held output.new) }
-    ensures writes { IsOfWrites (is_write_fault result) (O.failed output.old) (O.failed output.new) }
-    ensures reads { IsOfReads (is_read_fault result) (I.failed intake.old) (I.failed intake.new) (I.calls intake.new) }
+) -> (Result<Conclusion, PumpFault>, L)
+    requires { IsUnasked command }
+    ensures served { I.tells intake.old → O.tells output.old → IsKeptServed
+        (reply_of (drive_from command.in_json command.offered command.book 1 (lines_of (I.left intake.old))))
+        result.0 (O.held output.old) (O.held output.new) }
+    ensures again { I.tells intake.old → O.tells output.old → L.honest result.1 →
+        (found : List commands.Command) → L.leaves result.1 found →
+        IsWrittenAgain command (lines_of (I.left intake.old)) found (O.held output.old) (O.held output.new) }
+    ensures writes { IsOfWrites (is_write_fault result.0) (O.failed output.old) (O.failed output.new) }
+    ensures reads { IsOfReads (is_read_fault result.0) (I.failed intake.old) (I.failed intake.new) (I.calls intake.new) }
     ensures said { HasSaid F.Outlet is_explained faults.old faults.new }
 {
     let mut command = command;
     let answered = pump_saying(alloc, &mut command, is_explained, intake, output, faults);
     let fault = command.fault();
-    drop(command);
-    concluded(answered, fault)
+    (concluded(answered, fault), command.into_ledger())
 }
 
 /// How a sale ends whose lines were answered so, by a command that a fault of its ledger ended, if one did.

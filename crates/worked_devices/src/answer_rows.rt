@@ -14,6 +14,8 @@ impl Command for Sample {
 
     ghost answer = { λ _ number lines. sample_answer number lines };
 
+    ghost stops = { λ _ _ _ _ _ it. it };
+
     fn line(
         &mut self,
         number: u64,

@@ -11,16 +11,16 @@ all_three : {X Y : Type 0} (r : Result X Y) (P Q R T : X → Type 0) → ((x : X
 all_three (Ok x) P Q R T f p q r = f x p q r
 all_three (Err e) P Q R T f p q r = tt
 
-pub returns-in-Ok-clause-found : goal.returns-in-Ok-clause-found
-returns-in-Ok-clause-found g c =
-    let first = file_state c.in-Ok.conn in
+pub returns-clause-found : goal.returns-clause-found
+returns-clause-found g c =
+    let first = file_state c.in_ok-conn.conn in
     all_three c.ledger_over.result (λ opened. IsTold (file_state opened.0.conn) → WasFound first.committed opened.1.items) (λ opened. Survives first (file_state opened.0.conn) (λ db. rows_in db ≡ []))
     (λ opened. IsTold (file_state opened.0.conn) → Keeps (file_state opened.0.conn) opened.0.end opened.1.items)
     (λ opened. IsTold (file_state opened.0.conn) → WasFoundIn (image_at g.S.Start) opened.1.items)
     (λ opened found crash kept told.
     let early : HasCleanDisk first = omega (arith, crash.clean, told.0) in
-    let finds = c.in-Ok.ensures.found early in
-    let opens = c.in-Ok.ensures.opened early in
+    let finds = c.in_ok-conn.ensures.found early in
+    let opens = c.in_ok-conn.ensures.opened early in
     let whole = opens.1 opens.0.is_open in
     record {
       db = first.committed;

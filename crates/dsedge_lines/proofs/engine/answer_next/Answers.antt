@@ -1,5 +1,6 @@
-use Rattle.std.proofs.Common.{ℕ, Err, refl}
+use Rattle.std.proofs.Common.{ℕ, ◌++◌, Some, Err, refl}
 use Rattle.pcap_capture.proofs.CountLaws.{answer_reads}
+use Rattle.dsedge_lines.specs.Underway.{lines_with}
 use Rattle.dsedge_lines.proofs.engine.answer_next.Goals as goal
 
 pub returns-in_default-clause-told : goal.returns-in_default-clause-told
@@ -71,3 +72,7 @@ returns-in-Err-answer_piece-clause-number g c = tt
 
 pub returns-in-Err-answer_piece-clause-carried : goal.returns-in-Err-answer_piece-clause-carried
 returns-in-Err-answer_piece-clause-carried g c = tt
+
+pub returns-in_default-clause-stands : goal.returns-in_default-clause-stands
+returns-in_default-clause-stands g c = λ tells start whole front it.
+    g.met.C.Command.stops start whole (Some (lines_with c.args.progress.now (g.I.Intake.left c.args.intake.now))) (front ++ c.args.progress.now.out.items) c.args.command.now it

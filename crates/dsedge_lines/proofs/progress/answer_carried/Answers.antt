@@ -7,4 +7,10 @@ pub returns-clause-answer : goal.returns-clause-answer
 returns-clause-answer g c = λ later.
     let carry = c.args.progress.now.carry.items in
     let lines = lines_of-cut carry later c.requires.carried ∙ ap (λ line. line ∷ lines_of later) (sym c.as_slice.ensures.value) in
-    rw (lines, c.clear.ensures.items) (c.line-answered.ensures (lines_of later))
+    rw (lines, c.clear.ensures.items) (c.line-answered.ensures.answer (lines_of later))
+
+pub returns-clause-stands : goal.returns-clause-stands
+returns-clause-stands g c = λ later.
+    let carry = c.args.progress.now.carry.items in
+    let lines = lines_of-cut carry later c.requires.carried ∙ ap (λ line. line ∷ lines_of later) (sym c.as_slice.ensures.value) in
+    rw (lines, c.clear.ensures.items) (c.line-answered.ensures.stands (lines_of later))

@@ -11,7 +11,15 @@ returns-clause-answer g c = λ later.
     let counted = carry.ok.0 in
     let none : length carry.items ≡ 0 = grind (arith, nat_tests) in
     let nothing : carry.items ≡ [] = nil-from_length carry.items none in
-    rw (nothing, lines_of-cut c.args.rest.now later c.requires.one_line) (c.line-answered.ensures (lines_of later))
+    rw (nothing, lines_of-cut c.args.rest.now later c.requires.one_line) (c.line-answered.ensures.answer (lines_of later))
+
+pub returns-clause-stands : goal.returns-clause-stands
+returns-clause-stands g c = λ later.
+    let carry = c.args.progress.now.carry in
+    let counted = carry.ok.0 in
+    let none : length carry.items ≡ 0 = grind (arith, nat_tests) in
+    let nothing : carry.items ≡ [] = nil-from_length carry.items none in
+    rw (nothing, lines_of-cut c.args.rest.now later c.requires.one_line) (c.line-answered.ensures.stands (lines_of later))
 
 pub answer_carried-requires-clause-carried : goal.answer_carried-requires-clause-carried
 answer_carried-requires-clause-carried g c =

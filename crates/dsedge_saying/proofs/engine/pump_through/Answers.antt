@@ -1,10 +1,12 @@
-use Rattle.std.proofs.Common.{◌≡◌, ◌+◌, ◌≤◌, true, [], ◌++◌, refl, sym, ap, ◌∙◌, arith, append-nil, Ok, Err, vec_len}
+use Rattle.std.proofs.Common.{◌≡◌, ◌+◌, ◌≤◌, true, [], ◌++◌, refl, sym, ap, ◌∙◌, arith, append-nil, subst, None, Some, Ok, Err, vec_len}
 use Rattle.line_text.specs.Lines.{lines_of}
 use Rattle.line_text.proofs.LineLemmas.{has_byte-nil}
 use Rattle.pcap_capture.proofs.CountLaws.{reads_from}
 use Rattle.dsedge_lines.specs.Answers.{behind}
 use Rattle.dsedge_lines.proofs.AnswerLemmas.{behind-handed, BeginsWith-behind, BeginsWith-whole, BeginsWith-given, held-append, front-settled, none-settled, settled-failures, settled-unread, whole-settled, stays-false}
 use Rattle.dsedge_lines.specs.Faults.{is_read_fault}
+use Rattle.dsedge_lines.specs.Underway.{lines_with}
+use Rattle.dsedge_lines.proofs.CourseLaws.{handed_over, stays_behind}
 use Rattle.dsedge_lines.specs.declared.command.Ending.{Ending}
 use Rattle.dsedge_lines.specs.declared.fault.PumpFault.TheVariants.{NoMemory}
 use Rattle.dsedge_saying.proofs.SayingLaws.{further_said, unsaid}
@@ -19,7 +21,7 @@ loop-command-init g c = record {
   told_outlet = λ tells. tells;
   failed = refl;
   failed_outlet = refl;
-  answer = λ tells tells_outlet. ([], sym (append-nil _), rw (c.requires.fresh.carry, c.requires.fresh.out, c.requires.fresh.number) refl);
+  answer = λ tells tells_outlet. ([], sym (append-nil _), rw (c.requires.fresh.carry, c.requires.fresh.out, c.requires.fresh.number) refl, rw (c.requires.fresh.carry, c.requires.fresh.out) (λ start whole front it. it));
   said = unsaid g.F.Outlet true c.args.faults.now;
 }
 
@@ -46,6 +48,9 @@ loop-command-preserved g c =
             now.0 ++ out,
             held-append _ _ _ now.0 out now.1 (c.in-Ok.ensures.bytes (was.told_outlet tells_outlet)),
             ap (behind (now.0 ++ out)) on ∙ handed,
+            λ start whole front it.
+                stays_behind g.C.Command.stands start c.loop-command.command c.answer_next.new.command whole front (now.0 ++ out) c.give_out.new.out.items c.answer_next.new.progress.out.items _ _
+                (rw (c.in-Ok-None.field-0-is, c.in-Ok.ensures.same) at (next.stands (was.told tells))) c.in-Ok.ensures.emptied (now.3 start whole front it),
           );
       said = further_said g.F.Outlet true _ _ _ was.said c.in-Ok.ensures.said;
     }
@@ -61,6 +66,17 @@ returns-in_default-clause-written g c = λ tells tells_outlet.
       whole_text = tt;
       front = (_, BeginsWith-given now.0 out (behind out answer) _ given.0 (BeginsWith-behind out answer _ refl) now.2, held-append _ _ _ now.0 _ now.1 given.1);
     }
+
+pub returns-in_default-clause-stands : goal.returns-in_default-clause-stands
+returns-in_default-clause-stands g c = λ tells tells_outlet start whole front it.
+    let was = c.loop-command.invariant in
+    let now = was.answer tells tells_outlet in
+    let out = c.loop-command.progress.out.items in
+    let stood = subst (λ text. g.C.Command.stands start whole (Some (lines_of (g.I.Intake.left c.args.intake.now))) text c.args.command.now) (sym (append-nil front)) it in
+    rw c.in_default.ensures.same
+    (handed_over {T = Ending} (λ text. g.C.Command.stands start whole None (front ++ text) c.loop-command.command) (Err c.in_default.field-0) _ _ _ now.0 out
+    (c.in_default.ensures.bytes (was.told_outlet tells_outlet)) now.1
+    (g.met.C.Command.stops start whole (Some (lines_with c.loop-command.progress (g.I.Intake.left c.loop-command.intake))) (front ++ (now.0 ++ out)) c.loop-command.command (now.3 start whole front stood)))
 
 pub returns-in_default-clause-said : goal.returns-in_default-clause-said
 returns-in_default-clause-said g c = further_said g.F.Outlet true _ _ _ c.loop-command.invariant.said c.in_default.ensures.said
@@ -82,6 +98,19 @@ returns-in-Ok-Some-clause-written g c = λ tells tells_outlet.
       whole_text = whole-settled c.settle.result c.in-Ok-Some.ending _ _ _ (now.0 ++ out) c.answer_next.new.progress.out.items whole _ c.settle.ensures.outcome settled held ended handed;
       front = front-settled c.settle.result _ _ _ (now.0 ++ out) _ whole _ settled held begins handed;
     }
+
+pub returns-in-Ok-Some-clause-stands : goal.returns-in-Ok-Some-clause-stands
+returns-in-Ok-Some-clause-stands g c = λ tells tells_outlet start whole front it.
+    let was = c.loop-command.invariant in
+    let given = c.in-Ok.ensures in
+    let now = was.answer tells tells_outlet in
+    let out = c.loop-command.progress.out.items in
+    let stood = subst (λ text. g.C.Command.stands start whole (Some (lines_of (g.I.Intake.left c.args.intake.now))) text c.args.command.now) (sym (append-nil front)) it in
+    let stands = stays_behind g.C.Command.stands start c.loop-command.command c.answer_next.new.command whole front (now.0 ++ out) c.give_out.new.out.items c.answer_next.new.progress.out.items _ _
+        (rw (c.in-Ok-Some.field-0-is, given.same) at (c.in-Ok-Some.ensures.stands (was.told tells))) given.emptied (now.3 start whole front stood) in
+    rw c.settle.ensures.same
+    (handed_over (λ text. g.C.Command.stands start whole None (front ++ text) c.answer_next.new.command) c.settle.result _ _ _ (now.0 ++ out) c.answer_next.new.progress.out.items
+    (c.settle.ensures.bytes (given.told (was.told_outlet tells_outlet))) (held-append _ _ _ now.0 out now.1 (given.bytes (was.told_outlet tells_outlet))) stands)
 
 pub returns-in-Ok-Some-clause-write : goal.returns-in-Ok-Some-clause-write
 returns-in-Ok-Some-clause-write g c =
@@ -111,6 +140,19 @@ returns-in-Err-NoMemory-clause-written g c = λ tells tells_outlet.
           (held-append _ _ _ now.0 out now.1 (handed_over.bytes (was.told_outlet tells_outlet))) begins handed;
     }
 
+pub returns-in-Err-NoMemory-clause-stands : goal.returns-in-Err-NoMemory-clause-stands
+returns-in-Err-NoMemory-clause-stands g c = λ tells tells_outlet start whole front it.
+    let was = c.loop-command.invariant in
+    let given = c.in-Ok.ensures in
+    let now = was.answer tells tells_outlet in
+    let out = c.loop-command.progress.out.items in
+    let stood = subst (λ text. g.C.Command.stands start whole (Some (lines_of (g.I.Intake.left c.args.intake.now))) text c.args.command.now) (sym (append-nil front)) it in
+    let stands = stays_behind g.C.Command.stands start c.loop-command.command c.answer_next.new.command whole front (now.0 ++ out) c.give_out.new.out.items c.answer_next.new.progress.out.items _ _
+        (rw given.same at (c.in-Err-NoMemory.ensures.stands (was.told tells))) given.emptied (now.3 start whole front stood) in
+    rw c.settle-in-Err-NoMemory.ensures.same
+    (handed_over (λ text. g.C.Command.stands start whole None (front ++ text) c.answer_next.new.command) c.settle-in-Err-NoMemory.result _ _ _ (now.0 ++ out) c.answer_next.new.progress.out.items
+    (c.settle-in-Err-NoMemory.ensures.bytes (given.told (was.told_outlet tells_outlet))) (held-append _ _ _ now.0 out now.1 (given.bytes (was.told_outlet tells_outlet))) stands)
+
 pub returns-in-Err-NoMemory-clause-write : goal.returns-in-Err-NoMemory-clause-write
 returns-in-Err-NoMemory-clause-write g c =
     settled-failures _ _ _ _ (c.in-Ok.ensures.failures ∙ c.loop-command.invariant.failed_outlet) c.settle-in-Err-NoMemory.ensures.failures
@@ -137,6 +179,20 @@ returns-in-Err g c =
           record {
             whole_text = tt;
             front = (now.0 ++ out, BeginsWith-behind (now.0 ++ out) (behind c.give_out.new.out.items answer) _ handed, held-append _ _ _ now.0 out now.1 (handed_over.bytes (was.told_outlet tells_outlet)));
+          };
+      stands = λ tells tells_outlet start whole front it.
+          let now = was.answer tells tells_outlet in
+          let out = c.loop-command.progress.out.items in
+          let more = c.answer_next.new.progress.out.items in
+          let stood = subst (λ text. g.C.Command.stands start whole (Some (lines_of (g.I.Intake.left c.args.intake.now))) text c.args.command.now) (sym (append-nil front)) it in
+          record {
+            text = (now.0 ++ out) ++ more;
+            holds = stays_behind g.C.Command.stands start c.loop-command.command c.answer_next.new.command whole front (now.0 ++ out) c.give_out.new.out.items more _ _
+                (rw handed_over.same at (next.stands (was.told tells))) handed_over.emptied (now.3 start whole front stood);
+            front = now.0 ++ out;
+            more = more;
+            whole = refl;
+            given = held-append _ _ _ now.0 out now.1 (handed_over.bytes (was.told_outlet tells_outlet));
           };
       write = stays-false _ _ next.input (handed_over.failures ∙ was.failed_outlet);
       reads = reads_from (is_read_fault {T = Ending} (Err c.in-Err.fault)) _ _ _ _ was.failed next.reads;

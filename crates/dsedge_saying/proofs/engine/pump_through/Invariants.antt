@@ -1,7 +1,8 @@
-use Rattle.std.proofs.Common.{◌≡◌, ℕ, ◌+◌, ◌*◌, ◌^◌, ◌≤◌, false, true, List, ◌++◌, vec_len}
+use Rattle.std.proofs.Common.{◌≡◌, ℕ, ◌+◌, ◌*◌, ◌^◌, ◌≤◌, false, true, List, [], ◌++◌, Some, vec_len}
 use Rattle.line_text.specs.Lines.{lines_of, has_byte}
 use Rattle.dsedge_lines.specs.Answers.{behind}
-use Rattle.dsedge_lines.specs.Underway.{answer_with}
+use Rattle.dsedge_lines.specs.Courses.{StaysOn}
+use Rattle.dsedge_lines.specs.Underway.{answer_with, lines_with}
 use Rattle.dsedge_saying.specs.Saying.{HasSaid}
 use Rattle.dsedge_saying.proofs.engine.pump_through.Given as goal
 
@@ -17,7 +18,9 @@ invariant-loop-command g l = record {
   failed_outlet : g.O.Outlet.failed l.outlet ≡ g.O.Outlet.failed l.initial.outlet;
   answer : g.I.Intake.tells l.initial.intake → g.O.Outlet.tells l.initial.outlet → (written : List ℕ)
       × (g.O.Outlet.held l.outlet ≡ g.O.Outlet.held l.initial.outlet ++ written)
-      × (behind written (answer_with (g.C.Command.answer l.command) l.progress (g.I.Intake.left l.intake)) ≡ g.C.Command.answer l.initial.command 1 (lines_of (g.I.Intake.left l.initial.intake)));
+      × (behind written (answer_with (g.C.Command.answer l.command) l.progress (g.I.Intake.left l.intake)) ≡ g.C.Command.answer l.initial.command 1 (lines_of (g.I.Intake.left l.initial.intake)))
+      × StaysOn g.C.Command.stands l.initial.command [] (Some (lines_of (g.I.Intake.left l.initial.intake)))
+      l.command (written ++ l.progress.out.items) (Some (lines_with l.progress (g.I.Intake.left l.intake)));
   said : HasSaid g.F.Outlet true l.initial.faults l.faults;
 }
 

@@ -5,8 +5,8 @@ use Rattle.dsedge_audit.specs.Audited.{audit_of}
 use Rattle.dsedge_audit.proofs.AuditLaws.{last_line}
 use Rattle.dsedge_audit.proofs.command.AuditCommandCommand.end.Goals as goal
 
-pub returns : goal.returns
-returns c =
+pub returns-clause-answer : goal.returns-clause-answer
+returns-clause-answer c =
     let own = c.args.self.now in
     let table : c.accepted-accepted.result.now ≡ own.table = c.accepted-accepted.ensures ∙ ap (λ x. x.table) c.self.view_is in
     let run : c.in_ok-run.run'.run ≡ run_so_far own.stage = ap (λ r. r.run) c.in_ok-run.ensures in

@@ -2,7 +2,7 @@ use Rattle.std.proofs.Common.{ap, refl, sym, subst, ◌∙◌}
 use Rattle.std.proofs.lemmas.Result.{err_from_is_err_and}
 use Rattle.dsedge_lines.specs.Fronts.{IsFirstLine}
 use Rattle.dsedge_drive.specs.Opened.{IsGrown}
-use Rattle.dsedge_drive.proofs.AgainLaws.{follows_given, follows_held, stays_ungiven, stays_unsaid}
+use Rattle.dsedge_drive.proofs.AgainLaws.{follows_given, follows_held, further_by_front, stands_by_front, stays_ungiven, stays_unsaid}
 use Rattle.dsedge_drive.proofs.command.DriveCommandCommand.front_line.Goals as goal
 use Rattle.dsedge_drive.proofs.command.DriveCommandCommand.front_line.Goals.{then-is_due+in_ok-give, else-is_due}
 
@@ -32,3 +32,16 @@ returns-clause-follows g c =
             (subst (IsGrown s) (sym w.self-is) c.reply.ensures.grown) (ap (λ o. o.items) w.out-is)
       ],
     )
+
+pub returns-in_err-reply-clause-stands : goal.returns-in_err-reply-clause-stands
+returns-in_err-reply-clause-stands g c later =
+    stands_by_front c.args.self.now c.reply.new.self c.args.out.now.items c.args.out.now.items c.from_residual.result c.args.text.now later (λ it. it.now) (returns-in_err-reply-clause-follows g c)
+
+pub returns-in_err-give-clause-stands : goal.returns-in_err-give-clause-stands
+returns-in_err-give-clause-stands g c later =
+    stands_by_front c.args.self.now c.give.new.self c.args.out.now.items c.give.new.out.items c.from_residual-in_err-give.result c.args.text.now later (λ it. it.now) (returns-in_err-give-clause-follows g c)
+
+pub returns-clause-stands : goal.returns-clause-stands
+returns-clause-stands g c later =
+    let follows = returns-clause-follows g c in
+    further_by_front c.args.self.now c.if-is_due.self c.args.out.now.items c.if-is_due.out.items c.args.text.now follows.0 c.in-Some.rest.now later follows.1 follows.2

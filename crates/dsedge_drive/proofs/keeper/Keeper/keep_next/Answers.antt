@@ -1,4 +1,4 @@
-use Rattle.std.proofs.Common.{◌<◌, ◌≤◌, ◌-◌, arith, length}
+use Rattle.std.proofs.Common.{◌<◌, ◌≤◌, arith, length}
 use Rattle.dsedge_drive.proofs.KeepLaws.{kept-more, kept-same, some-taken}
 use Rattle.dsedge_drive.proofs.keeper.Keeper.keep_next.Goals as goal
 

@@ -7,8 +7,8 @@ use Rattle.dsedge_meter.proofs.MeteredLaws.{behind-nothing}
 use Rattle.dsedge_meter.proofs.VerdictLaws.{sized_since_not_before, verdict_behind-bad, verdict_behind-good}
 use Rattle.dsedge_meter.proofs.envelope.EnvelopeCommandCommand.line.Goals as goal
 
-pub returns-in_default : goal.returns-in_default
-returns-in_default c later =
+pub returns-in_default-clause-answer : goal.returns-in_default-clause-answer
+returns-in_default-clause-answer c later =
     let newest : c.newest.result ≡ c.args.self.now.bucket.since = c.newest.ensures ∙ ap (λ (t : Testing). t.bucket.since) c.self.view_is in
     let none : sized_since c.args.self.now.bucket.since c.args.line.now ≡ None =
     ap (λ newest. sized_since newest c.args.line.now) (sym newest) ∙ sym c.sized_moment.ensures ∙ c.in_default.is in
@@ -20,8 +20,8 @@ test-requires c =
     sized_since_not_before c.args.self.now.bucket.since c.args.line.now c.in-Some.item
     (ap (λ newest. sized_since newest c.args.line.now) (sym newest) ∙ sym c.in-Some.ensures)
 
-pub returns : goal.returns
-returns c later =
+pub returns-clause-answer : goal.returns-clause-answer
+returns-clause-answer c later =
     let t = c.args.self.now in
     let newest : c.newest.result ≡ t.bucket.since = c.newest.ensures ∙ ap (λ (t : Testing). t.bucket.since) c.self.view_is in
     let said : sized_since t.bucket.since c.args.line.now ≡ Some c.in-Some.item =
