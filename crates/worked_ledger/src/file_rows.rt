@@ -190,42 +190,55 @@ const KEPT: &str = "worked_ledger_kept.db";
 /// The file, and its log.
 const FILES: [&str; 2] = [KEPT, "worked_ledger_kept.db-wal"];
 
-#[test]
-fn what_a_file_keeps_is_read_again(rt: HostRuntime) {
-    let alloc = rt.alloc();
-    clear(&rt, &FILES);
-    let book = sold(&rt, alloc);
-    let shelf = FileShelf::new(&rt);
-    keep(&rt, alloc, &shelf, &book);
-    let told = shelf.commands(alloc, KEPT).expect(&rt, "commands");
-    expect_same(&rt, alloc, told.as_slice(), &book);
+/// Keeps the commands of a book, and expects that they are read again, without the ledger and with it, and make the book.
+fn expect_kept<S: Shelf>(rt: &impl Abort, alloc: Global, shelf: &S) {
+    let book = sold(rt, alloc);
+    keep(rt, alloc, shelf, &book);
+    let told = shelf.commands(alloc, KEPT).expect(rt, "commands");
+    expect_same(rt, alloc, told.as_slice(), &book);
     drop(told);
-    let (ledger, kept) = open(&rt, alloc, &shelf);
-    expect_same(&rt, alloc, kept.as_slice(), &book);
-    let mut again = opened(&rt, alloc);
-    assert!(rt; replay(&mut again, kept).is_ok());
-    assert!(rt; again.list(alloc).expect(&rt, "memory") == book.list(alloc).expect(&rt, "memory"));
+    let (ledger, kept) = open(rt, alloc, shelf);
+    expect_same(rt, alloc, kept.as_slice(), &book);
     drop(ledger);
+    let mut again = opened(rt, alloc);
+    assert!(rt; replay(&mut again, kept).is_ok());
+    assert!(rt; again.list(alloc).expect(rt, "memory") == book.list(alloc).expect(rt, "memory"));
     drop(again);
     drop(book);
+}
+
+#[test]
+fn what_a_file_keeps_is_read_again(rt: HostRuntime) {
     clear(&rt, &FILES);
+    expect_kept(&rt, rt.alloc(), &FileShelf::new(&rt));
+    clear(&rt, &FILES);
+}
+
+/// Expects that no ledger can be had in the file of a path.
+fn expect_unopened<S: Shelf>(rt: &impl Abort, alloc: Global, shelf: &S, path: &str) {
+    let none = shelf.open(alloc, path);
+    assert!(rt; matches!(none, Err(LedgerFault::Open)));
 }
 
 #[test]
 fn a_file_that_cannot_be_opened_is_told(rt: HostRuntime) {
     let shelf = FileShelf::new(&rt);
     for path in ["worked_ledger_none/sold.db", "."] {
-        let none = shelf.open(rt.alloc(), path);
-        assert!(rt; matches!(none, Err(LedgerFault::Open)));
+        expect_unopened(&rt, rt.alloc(), &shelf, path);
     }
+}
+
+/// Expects that no commands can be had of the file of a path.
+fn expect_untold<S: Shelf>(rt: &impl Abort, alloc: Global, shelf: &S, path: &str) {
+    let none = shelf.commands(alloc, path);
+    assert!(rt; matches!(none, Err(LedgerFault::Open)));
 }
 
 #[test]
 fn a_file_that_is_not_there_is_not_made(rt: HostRuntime) {
     let shelf = FileShelf::new(&rt);
     for _ in 0..2 {
-        let none = shelf.commands(rt.alloc(), "worked_ledger_absent.db");
-        assert!(rt; matches!(none, Err(LedgerFault::Open)));
+        expect_untold(&rt, rt.alloc(), &shelf, "worked_ledger_absent.db");
     }
     let gone = rt.remove_file("worked_ledger_absent.db");
     assert!(rt; gone.is_err());

@@ -60,57 +60,36 @@ const OTHERS: [Form; 6] = [
     },
 ];
 
-/// The statement that makes the table of commands.
-fn command_table(alloc: Global, moment: &str) -> Result<String, AllocError> {
+/// The statements that make a database of a form.
+fn statements_of(alloc: Global, form: &Form) -> Result<String, AllocError> {
+    let (moment, held, version, more) = (form.moment, form.held, form.version, form.more);
     format!(in alloc;
         "CREATE TABLE command (serial INTEGER PRIMARY KEY, done TEXT, id INTEGER, moment {moment}, \
     name TEXT, port TEXT, path TEXT, class INTEGER, kind TEXT, mode TEXT, cir INTEGER, cbs INTEGER, pir INTEGER, \
     pbs INTEGER, eir INTEGER, ebs INTEGER, since INTEGER, until INTEGER, src ANY, src_length INTEGER, dst ANY, \
     dst_length INTEGER, protocol INTEGER, sport_low INTEGER, sport_high INTEGER, dport_low INTEGER, dport_high \
-    INTEGER, dscp INTEGER) STRICT"
-    )
-}
-
-/// The statement that makes the view of what is held.
-fn held_view(alloc: Global, end: &str) -> Result<String, AllocError> {
-    format!(in alloc;
-        "CREATE VIEW held AS SELECT id, name, port, path, class, kind, mode, cir, cbs, pir, pbs, eir, \
+    INTEGER, dscp INTEGER) STRICT; CREATE TABLE form (version INTEGER PRIMARY KEY) STRICT; \
+    CREATE VIEW held AS SELECT id, name, port, path, class, kind, mode, cir, cbs, pir, pbs, eir, \
     ebs, since, until, (SELECT moment FROM command AS ended WHERE ended.done = 'release' AND ended.id = command.id) \
-    AS released FROM command WHERE done = 'reserve' AND id NOT IN (SELECT id FROM command WHERE done = 'retire'){end}"
+    AS released FROM command WHERE done = 'reserve' AND id NOT IN (SELECT id FROM command WHERE done = 'retire'){held}; \
+    INSERT INTO form VALUES ({version}); {more}"
     )
 }
 
 /// Makes a database in the file of a path by statements.
-fn make(rt: &HostRuntime, path: &str, statements: &[&str]) -> Result<(), Error> {
+fn make(rt: &HostRuntime, path: &str, statements: &str) -> Result<(), Error> {
     let mut conn = Connection::open_with_sums(rt, path)?;
-    for statement in statements {
-        conn.execute_batch(statement)?;
-    }
-    conn.close()
-}
-
-/// The statements that make what each form has otherwise: the table of commands, the view, and the form's version.
-fn statements_of(alloc: Global, form: &Form) -> Result<[String; 3], AllocError> {
-    Ok([
-        command_table(alloc, form.moment)?,
-        held_view(alloc, form.held)?,
-        format!(in alloc; "INSERT INTO form VALUES ({})", form.version)?,
-    ])
+    let made = conn.execute_batch(statements);
+    let closed = conn.close();
+    made.and(closed)
 }
 
 /// Makes a database of a form in the file of a path.
 fn make_form(rt: &HostRuntime, path: &str, form: &Form) -> Result<(), Error> {
-    let Ok([command, held, version]) = statements_of(rt.alloc(), form) else {
-        return Err(Error::SqliteFailure(ErrorCode::OutOfMemory));
-    };
-    let statements = [
-        command.as_str(),
-        "CREATE TABLE form (version INTEGER PRIMARY KEY) STRICT",
-        held.as_str(),
-        version.as_str(),
-        form.more,
-    ];
-    make(rt, path, &statements)
+    match statements_of(rt.alloc(), form) {
+        Ok(statements) => make(rt, path, statements.as_str()),
+        Err(_) => Err(Error::SqliteFailure(ErrorCode::OutOfMemory)),
+    }
 }
 
 /// Expects that the database of a path is refused for its form, each time that it is opened.
@@ -126,15 +105,19 @@ fn expect_refused<S: Shelf>(rt: &(impl Abort + AllocGlobal), shelf: &S, path: &s
 /// Where a database of a ledger's form stands, and its log.
 const FORMED: [&str; 2] = ["worked_ledger_formed.db", "worked_ledger_formed.db-wal"];
 
+/// Expects that the database of a path is a ledger, which keeps nothing yet.
+fn expect_empty<S: Shelf>(rt: &(impl Abort + AllocGlobal), shelf: &S, path: &str) {
+    let (ledger, commands) = shelf.open(rt.alloc(), path).expect(rt, "a ledger");
+    assert!(rt; commands.is_empty());
+    drop(ledger);
+    drop(commands);
+}
+
 #[test]
 fn a_database_of_the_form_is_a_ledger(rt: HostRuntime) {
     clear(&rt, &FORMED);
     assert!(rt; make_form(&rt, FORMED[0], &OWN).is_ok());
-    let shelf = FileShelf::new(&rt);
-    let (ledger, commands) = shelf.open(rt.alloc(), FORMED[0]).expect(&rt, "a ledger");
-    assert!(rt; commands.is_empty());
-    drop(ledger);
-    drop(commands);
+    expect_empty(&rt, &FileShelf::new(&rt), FORMED[0]);
     clear(&rt, &FORMED);
 }
 
@@ -160,12 +143,12 @@ const NOTES: [&str; 2] = ["worked_ledger_notes.db", "worked_ledger_notes.db-wal"
 #[test]
 fn a_database_of_something_else_gets_no_table(rt: HostRuntime) {
     clear(&rt, &NOTES);
-    let made = make(&rt, NOTES[0], &["CREATE TABLE note (title TEXT)"]);
+    let made = make(&rt, NOTES[0], "CREATE TABLE note (title TEXT)");
     assert!(rt; made.is_ok());
     expect_refused(&rt, &FileShelf::new(&rt), NOTES[0], "notes");
-    let added = make(&rt, NOTES[0], &["INSERT INTO form VALUES (2)"]);
+    let added = make(&rt, NOTES[0], "INSERT INTO form VALUES (2)");
     assert!(rt; added.is_err());
-    let kept = make(&rt, NOTES[0], &["INSERT INTO note VALUES ('kept')"]);
+    let kept = make(&rt, NOTES[0], "INSERT INTO note VALUES ('kept')");
     assert!(rt; kept.is_ok());
     clear(&rt, &NOTES);
 }
