@@ -78,8 +78,8 @@ fn open_file<S: Start>(
     }
 }
 
-/// What an opening of a file that is open already tells of its lock, which it has to find busy: `Busy` where the file could
-/// be opened, and else why it was refused.
+/// What an opening of a file that is open already tells of its lock, which it has to find busy: `Busy` where the file
+/// could be opened, and else why it was refused.
 fn expect_busy<T: Drop>(opened: Result<T, LedgerFault>) -> Result<(), LedgerFault>
     ensures { result ≡ lock_of opened }
 {

@@ -108,8 +108,8 @@ FollowsAll result old out new written =
 abbrev pub beginning : Selling → Reply
 beginning start = record { text = []; offered = start.offered; book = start.book }
 
--- Where a broker stands in the lines of its whole input, from one that it once was: what was given out is what the first
--- of them are answered with, and kept; and where it has not stopped, it is behind all but those that are left.
+-- Where a broker stands in the lines of its whole input, from one that it once was: what was given out is what the
+-- first of them are answered with, and kept; and where it has not stopped, it is behind all but those that are left.
 abbrev pub StandsIn : Selling → List (List ℕ) → Option (List (List ℕ)) → List ℕ → Selling → Type 0
 StandsIn start whole left given s = HasGiven start.in_json (beginning start) whole given s
     × MatchOption left ⊤ (λ left. (lines : List (List ℕ)) × (whole ≡ lines ++ left)
@@ -120,8 +120,8 @@ pub record IsUnasked (s : Selling) : Type 0 where
   pub said : s.unsaid ≡ []
   pub kept : s.kept ≡ length s.book.history
 
--- What was written is what the first lines of an input were answered with, from a broker on, or a front of that. What an
--- open finds has every command that these lines had accepted; and the domain makes of it the book that it was then.
+-- What was written is what the first lines of an input were answered with, from a broker on, or a front of that. What
+-- an open finds has every command that these lines had accepted; and the domain makes of it the book that it was then.
 abbrev pub IsWrittenAgain : Selling → List (List ℕ) → List Command → List ℕ → List ℕ → Type 0
 IsWrittenAgain start lines found before after =
     IsHandedOver (λ given. IsAnsweredAgain start.in_json (beginning start) lines given found) before after

@@ -24,10 +24,9 @@ pub trait Command {
     // What is answered from here on to these lines, the first of which has this number.
     ghost answer: { Self → ℕ → List (List ℕ) → Answer };
 
-    // Where a command stands in the lines of its whole input, from one that it once was: with these left to answer, where
-    // it has not stopped, and behind a text that it answered. Whatever this is, each call keeps it.
-    ghost stands: { Self → List (List ℕ) → Option (List (List ℕ)) → List ℕ → Self → Type 0 }
-        = { λ _ _ _ _ _. Unit {0} };
+    // Where a command stands in the lines of its whole input, from one that it once was: with these left to answer,
+    // where it has not stopped, and behind a text that it answered. Whatever this is, each call keeps it.
+    ghost stands: { Self → List (List ℕ) → Option (List (List ℕ)) → List ℕ → Self → Type 0 } = { λ _ _ _ _ _. Unit {0} };
 
     /// Answers a line behind `out`, or says how the answer ends before it.
     ///

@@ -97,8 +97,8 @@ pub fn pump<C: Command, I: Intake, O: Outlet>(
     ensures front { I.tells intake.old → O.tells outlet.old → OnErr result (
         let whole = C.answer command.old 1 (lines_of (I.left intake.old)) in
         (front : List ℕ) × BeginsWith whole front × (O.held outlet.new ≡ O.held outlet.old ++ front)) }
-    // Wherever the command stood, with the lines of these bytes left, it has stopped behind a text that is handed over, or
-    // behind one of which a front is.
+    // Wherever the command stood, with the lines of these bytes left, it has stopped behind a text that is handed
+    // over, or behind one of which a front is.
     ensures stands { I.tells intake.old → O.tells outlet.old →
         (start : C) (whole : List (List ℕ)) (front : List ℕ) →
         C.stands start whole (Some (lines_of (I.left intake.old))) front command.old →

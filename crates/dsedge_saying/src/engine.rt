@@ -75,8 +75,8 @@ pub fn pump_saying<C: Command + Speaker, I: Intake, O: Outlet, F: Outlet>(
     ensures written { I.tells intake.old → O.tells outlet.old →
         IsPumped (C.answer command.old 1 (lines_of (I.left intake.old))) result (O.held outlet.old)
         (O.held outlet.new) }
-    // Wherever the command stood, with the lines of these bytes left, it has stopped behind what is written, or behind a
-    // text of which that is a front.
+    // Wherever the command stood, with the lines of these bytes left, it has stopped behind what is written, or
+    // behind a text of which that is a front.
     ensures stands { I.tells intake.old → O.tells outlet.old →
         (start : C) (whole : List (List ℕ)) (front : List ℕ) →
         C.stands start whole (Some (lines_of (I.left intake.old))) front command.old →

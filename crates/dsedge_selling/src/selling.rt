@@ -190,8 +190,8 @@ fn sell<J: Naming, R: Wait, L: Ledger + Drop, I: Intake, O: Outlet, F: Outlet>(
     }
 }
 
-/// Sells by a command before its first line, and gives its ledger up. Whatever a crash leaves of that then, the next open
-/// finds every command that lines had accepted of whose answers anything was written.
+/// Sells by a command before its first line, and gives its ledger up. Whatever a crash leaves of that then, the next
+/// open finds every command that lines had accepted of whose answers anything was written.
 #[tactic(auto, using(crate::proofs::SaleLemmas::concluded_served, crate::proofs::SaleLemmas::concluded_faults))]
 pub fn sell_by<J: Naming, R: Wait + Drop, L: Ledger + Drop, I: Intake, O: Outlet, F: Outlet>(
     alloc: Global,

@@ -190,7 +190,8 @@ const KEPT: &str = "worked_ledger_kept.db";
 /// The file, and its log.
 const FILES: [&str; 2] = [KEPT, "worked_ledger_kept.db-wal"];
 
-/// Keeps the commands of a book, and expects that they are read again, without the ledger and with it, and make the book.
+/// Keeps the commands of a book, and expects that they are read again, without the ledger and with it, and that they
+/// make the book.
 fn expect_kept<S: Shelf>(rt: &impl Abort, alloc: Global, shelf: &S) {
     let book = sold(rt, alloc);
     keep(rt, alloc, shelf, &book);

@@ -113,7 +113,7 @@ returns-in-Ok-Some-clause-stands g c = λ tells tells_outlet start whole front i
     let out = c.loop-command.progress.out.items in
     let stood = subst (λ text. g.C.Command.stands start whole (Some (lines_of (g.I.Intake.left c.args.intake.now))) text c.args.command.now) (sym (append-nil front)) it in
     let stands = stays_behind g.C.Command.stands start c.loop-command.command c.answer_next.new.command whole front (now.0 ++ out) c.hand_over.new.out.items c.answer_next.new.progress.out.items _ _
-        (rw c.in-Ok-Some.field-0-is at (c.in-Ok-Some.ensures.stands (was.told tells))) handed.emptied (now.3 start whole front stood) in
+    (rw c.in-Ok-Some.field-0-is at (c.in-Ok-Some.ensures.stands (was.told tells))) handed.emptied (now.3 start whole front stood) in
     handed_over (λ text. g.C.Command.stands start whole None (front ++ text) c.answer_next.new.command) c.settle.result _ _ _ (now.0 ++ out) c.answer_next.new.progress.out.items
     (c.settle.ensures.bytes (handed.told (was.told_outlet tells_outlet))) (held-append _ _ _ now.0 out now.1 (handed.bytes (was.told_outlet tells_outlet))) stands
 
@@ -125,7 +125,7 @@ returns-in-Err-NoMemory-clause-stands g c = λ tells tells_outlet start whole fr
     let out = c.loop-command.progress.out.items in
     let stood = subst (λ text. g.C.Command.stands start whole (Some (lines_of (g.I.Intake.left c.args.intake.now))) text c.args.command.now) (sym (append-nil front)) it in
     let stands = stays_behind g.C.Command.stands start c.loop-command.command c.answer_next.new.command whole front (now.0 ++ out) c.hand_over.new.out.items c.answer_next.new.progress.out.items _ _
-        (c.in-Err-NoMemory.ensures.stands (was.told tells)) handed.emptied (now.3 start whole front stood) in
+    (c.in-Err-NoMemory.ensures.stands (was.told tells)) handed.emptied (now.3 start whole front stood) in
     handed_over (λ text. g.C.Command.stands start whole None (front ++ text) c.answer_next.new.command) c.settle-in-Err-NoMemory.result _ _ _ (now.0 ++ out) c.answer_next.new.progress.out.items
     (c.settle-in-Err-NoMemory.ensures.bytes (handed.told (was.told_outlet tells_outlet))) (held-append _ _ _ now.0 out now.1 (handed.bytes (was.told_outlet tells_outlet))) stands
 
