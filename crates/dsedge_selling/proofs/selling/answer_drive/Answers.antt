@@ -1,4 +1,3 @@
-use Rattle.std.proofs.Common.{[]}
 use Rattle.line_text.specs.Lines.{lines_of}
 use Rattle.dsedge_drive.specs.Driven.{opening_book}
 use Rattle.dsedge_selling.proofs.SaleLemmas.{unledgered_served}

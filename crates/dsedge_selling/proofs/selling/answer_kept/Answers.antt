@@ -1,4 +1,3 @@
-use Rattle.std.proofs.Common.{[]}
 use Rattle.line_text.specs.Lines.{lines_of}
 use Rattle.ds_domain.specs.DomainTexts.{parse_of}
 use Rattle.dsedge_selling.proofs.SaleLemmas.{starved_from}
