@@ -4,7 +4,8 @@ ghost use Rattle.sqlite.specs.Start.{FindsIn};
 ghost use Rattle.sqlite.specs.Held.{state};
 ghost use Rattle.sqlite.specs.State.{HasCleanDisk};
 ghost use Rattle.sqlite.specs.WalFiles.{image_at};
-ghost use Rattle.ds_ledger.specs.Faults.{lock_of};
+ghost use Rattle.sqlite.specs.declared.error.Error.{Error};
+ghost use Rattle.ds_ledger.specs.Faults.{fault_of_open, lock_of};
 ghost use Rattle.ds_ledger.specs.Kept.{IsTold, Keeps, Outlasts, WasFoundIn};
 ghost use Rattle.ds_ledger.specs.Opened.{IsReadOver, IsUnreadOver};
 
@@ -71,6 +72,7 @@ fn open_file<S: Start>(
 ) -> Result<Connection<FileStore<FileFrom<S>>>, LedgerFault>
     ensures opened { IfOk result (λ conn. HasCleanDisk (file_state conn) → IsOpened conn) }
     ensures found { IfOk result (λ conn. HasCleanDisk (file_state conn) → FindsIn (image_at S.Start) (file_state conn)) }
+    ensures refused { IfErr result (λ fault. (error : Error) × (fault ≡ fault_of_open error)) }
 {
     match Connection::open_from(rt, path, true, start) {
         Ok(conn) => Ok(conn),
