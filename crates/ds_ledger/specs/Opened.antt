@@ -10,7 +10,8 @@ use Rattle.ds_ledger_base.specs.declared.fault.LedgerFault.TheVariants as faults
 use Rattle.ds_ledger_table.specs.Form.{no_schema}
 use Rattle.ds_ledger_table.specs.Rows.{FailsToTellForm, IsMade, TellsForm, rows_in}
 use Rattle.ds_ledger.specs.Faults.{fault_of_read, fault_of_write}
-use Rattle.ds_ledger.specs.Kept.{AreFound}
+use Rattle.ds_ledger.specs.Kept.{AreFound, IsTold, Keeps, Outlasts, WasFound}
+use Rattle.ds_ledger.specs.declared.ledger.End.{End}
 use Rattle.ds_ledger.specs.declared.reading.Stop.{Stop}
 use Rattle.ds_ledger.specs.declared.reading.Stop.TheVariants as stops
 
@@ -43,13 +44,22 @@ IsUnread new fault =
 abbrev pub IsUnmade : State → LedgerFault → Type 0
 IsUnmade first fault = (first.now.schema ≡ no_schema) × (e : Error) × (fault ≡ fault_of_write e)
 
--- Why no ledger is had of a database, in this order. A crash on the way leaves what it left before, or the form with no row.
+-- Why no ledger is had of a database, in this order. A crash on the way leaves what it left before, or the form with no
+-- row.
 abbrev pub IsUnopened : {S : Type 0} → Ghosts S → Held S → LedgerFault → Type 0
 IsUnopened {S} g first fault = (last : Held S) × Survives (state g first) (state g last) (λ db. rows_in db ≡ [])
     × (HasCleanDisk (state g last) → IsUnmade (state g first) fault
     ⊎ ((made : Held S) × ((made ≡ first) ⊎ IsMade (state g first) (state g made))
     × (IsFormless (state g made) (state g last) fault
     ⊎ (TellsForm (state g made).now true × IsUnread (state g last) fault))))
+
+-- a ledger in a database keeps the commands that were found there, and whatever a crash leaves from then on has them
+pub record IsLedgerOver {S : Type 0} (g : Ghosts S) (first last : Held S) (end : End) (commands : List Command)
+    : Type 0 where
+  pub kept : IsTold (state g last) → Keeps (state g last) end commands
+  pub found : IsTold (state g last) → WasFound (state g first).committed commands
+  pub lasting : HasCleanDisk (state g last) → Outlasts (state g last) commands
+  pub crash : Survives (state g first) (state g last) (λ db. rows_in db ≡ [])
 
 -- the commands of a database in the form of a ledger's were read, and nothing was changed
 abbrev pub IsReadOver : {S : Type 0} → Ghosts S → Held S → List Command → Type 0

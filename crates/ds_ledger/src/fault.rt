@@ -1,8 +1,33 @@
 ghost use Rattle.std.specs.Prelude.{◌≡◌};
-ghost use Rattle.ds_ledger.specs.Faults.{fault_of_open, fault_of_read, fault_of_write};
+ghost use Rattle.std.specs.IoError.{error_kind};
+ghost use Rattle.ds_ledger.specs.Faults.{fault_of_files, fault_of_kind, fault_of_open, fault_of_read, fault_of_write};
 
 use ds_ledger_base::LedgerFault;
 use sqlite::{Error, ErrorCode};
+use sqlite_std_file::OpenError;
+use std::io::{self, ErrorKind};
+
+/// Why a file cannot be had of the system.
+pub(crate) fn fault_of_io(error: io::Error) -> LedgerFault
+    ensures { result ≡ fault_of_kind (error_kind error) }
+{
+    match error.kind() {
+        ErrorKind::OutOfMemory => LedgerFault::NoMemory,
+        _ => LedgerFault::Open,
+    }
+}
+
+/// Why the two files of a database cannot be had.
+pub(crate) fn fault_of_files(error: OpenError) -> LedgerFault
+    ensures { result ≡ fault_of_files error }
+{
+    match error {
+        OpenError::Io(error) => fault_of_io(error),
+        OpenError::OutOfMemory => LedgerFault::NoMemory,
+        OpenError::Busy => LedgerFault::Busy,
+        OpenError::HotJournal => LedgerFault::Open,
+    }
+}
 
 /// Why a file cannot be opened.
 pub(crate) fn fault_of_open(error: Error) -> LedgerFault

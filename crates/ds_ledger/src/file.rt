@@ -1,4 +1,4 @@
-ghost use Rattle.std.specs.Prelude.{◌≡◌, ◌⊎◌, Err, IfErr, IfOk, IsOk, OnOk};
+ghost use Rattle.std.specs.Prelude.{◌≡◌, ◌⊎◌, Err, IfErr, IfOk, IsOk, Ok, OnOk};
 ghost use Rattle.sqlite.specs.Files.{IsOpened, file_state};
 ghost use Rattle.sqlite.specs.Start.{FindsIn};
 ghost use Rattle.sqlite.specs.Held.{state};
@@ -7,15 +7,16 @@ ghost use Rattle.sqlite.specs.WalFiles.{image_at};
 ghost use Rattle.sqlite.specs.declared.error.Error.{Error};
 ghost use Rattle.ds_ledger.specs.Faults.{fault_of_open, lock_of};
 ghost use Rattle.ds_ledger.specs.Kept.{IsTold, Keeps, Outlasts, WasFoundIn};
-ghost use Rattle.ds_ledger.specs.Opened.{IsReadOver, IsUnreadOver};
+ghost use Rattle.ds_ledger.specs.Opened.{IsLedgerOver, IsReadOver, IsUnreadOver};
 
-use crate::fault::fault_of_open;
+use crate::fault::{fault_of_files, fault_of_io, fault_of_open};
 use crate::ledger::{End, SqlLedger};
 use crate::reading::{commands_over, ledger_over};
 use crate::site::{Identity, Site, identity_at};
 use ds_broker::Command;
 use ds_ledger_base::{Ledger, LedgerFault, Shelf};
 use sqlite::{Alter, Connection, FileFrom, FileStore, Start, Wary};
+use sqlite_std_file::OpenError;
 use std::alloc::Global;
 use std::fs::{self, OpenOptions};
 use std::io::ErrorKind;
@@ -27,11 +28,8 @@ fn make_file(rt: &HostRuntime, path: &str) -> Result<(), LedgerFault> {
     options.write(true).create_new(true).mode(0o600);
     match options.open(rt, path) {
         Ok(_) => Ok(()),
-        Err(error) => match error.kind() {
-            ErrorKind::AlreadyExists => Ok(()),
-            ErrorKind::OutOfMemory => Err(LedgerFault::NoMemory),
-            _ => Err(LedgerFault::Open),
-        },
+        Err(error) if error.kind() == ErrorKind::AlreadyExists => Ok(()),
+        Err(error) => Err(fault_of_io(error)),
     }
 }
 
@@ -39,11 +37,8 @@ fn make_file(rt: &HostRuntime, path: &str) -> Result<(), LedgerFault> {
 fn size_of(rt: &HostRuntime, path: &str) -> Result<Option<u64>, LedgerFault> {
     match fs::metadata(rt, path) {
         Ok(found) => Ok(Some(found.len())),
-        Err(error) => match error.kind() {
-            ErrorKind::NotFound => Ok(None),
-            ErrorKind::OutOfMemory => Err(LedgerFault::NoMemory),
-            _ => Err(LedgerFault::Open),
-        },
+        Err(error) if error.kind() == ErrorKind::NotFound => Ok(None),
+        Err(error) => Err(fault_of_io(error)),
     }
 }
 
@@ -71,7 +66,8 @@ fn open_file<S: Start>(
     start: S,
 ) -> Result<Connection<FileStore<FileFrom<S>>>, LedgerFault>
     ensures opened { IfOk result (λ conn. HasCleanDisk (file_state conn) → IsOpened conn) }
-    ensures found { IfOk result (λ conn. HasCleanDisk (file_state conn) → FindsIn (image_at S.Start) (file_state conn)) }
+    ensures found { IfOk result (λ conn. HasCleanDisk (file_state conn) →
+        FindsIn (image_at S.Start) (file_state conn)) }
     ensures refused { IfErr result (λ fault. (error : Error) × (fault ≡ fault_of_open error)) }
 {
     match Connection::open_from(rt, path, true, start) {
@@ -80,15 +76,15 @@ fn open_file<S: Start>(
     }
 }
 
-/// What an opening of a file that is open already tells of its lock, which it has to find busy: `Busy` where the file
-/// could be opened, and else why it was refused.
-fn expect_busy<T: Drop>(opened: Result<T, LedgerFault>) -> Result<(), LedgerFault>
+/// What an opening of files that are open already tells of their lock, which it has to find busy: `Busy` where they
+/// could be opened, and else why they were refused.
+fn expect_busy<T: Drop>(opened: Result<T, OpenError>) -> Result<(), LedgerFault>
     ensures { result ≡ lock_of opened }
 {
     match opened {
         Ok(_) => Err(LedgerFault::Busy),
-        Err(LedgerFault::Busy) => Ok(()),
-        Err(fault) => Err(fault),
+        Err(OpenError::Busy) => Ok(()),
+        Err(error) => Err(fault_of_files(error)),
     }
 }
 
@@ -109,8 +105,13 @@ fn site_of(
     Ok(site)
 }
 
-/// A ledger in a file, read as one whose torn writes may leave anything. Where it goes, its log is copied into the file; a
-/// failure to do so is passed over, since the log keeps what it kept.
+/// What is told of the lock of the files of a path that are open already: `Ok` where it keeps another opening off.
+fn lock_at(rt: &HostRuntime, path: &str) -> Result<(), LedgerFault> {
+    expect_busy(sqlite_std_file::open(rt, path, Wary))
+}
+
+/// A ledger in a file, read as one whose torn writes may leave anything. Where it goes, its log is copied into the file;
+/// a failure to do so is passed over, since the log keeps what it kept.
 ///
 /// Its next open finds it where its path leads to the same two files as when it was opened.
 pub struct FileLedger<'a> {
@@ -129,7 +130,13 @@ impl Drop for FileLedger<'_> {
             site: _site,
             located: _,
         } = self;
-        let _closed = rows.into_connection().close();
+        // taken apart, since a call at this type is dear to prove
+        let SqlLedger {
+            conn,
+            alloc: _,
+            end: _,
+        } = rows;
+        let _closed = conn.close();
     }
 }
 
@@ -161,6 +168,23 @@ impl Ledger for FileLedger<'_> {
     }
 }
 
+/// The ledger in a database whose files were opened, with the commands that it keeps, and where they stand. Refused as
+/// `ledger_over` is, else as the site is.
+fn ledger_at<S: Alter + Drop>(
+    alloc: Global,
+    conn: Connection<S>,
+    site: Result<Site, LedgerFault>,
+) -> Result<(SqlLedger<S>, Vec<Command>, Site), LedgerFault>
+    ensures over { IfOk result (λ opened. IsLedgerOver S.Store conn opened.0.conn opened.0.end opened.1.items) }
+    ensures site { IfOk result (λ opened. site ≡ Ok opened.2) }
+{
+    let (rows, commands) = ledger_over(alloc, conn)?;
+    match site {
+        Ok(site) => Ok((rows, commands, site)),
+        Err(fault) => Err(fault),
+    }
+}
+
 /// The commands in a database whose lock was looked for. Refused as its lock is, else as the ledger in it would be.
 fn commands_locked<S: Alter + Drop>(
     alloc: Global,
@@ -177,27 +201,34 @@ fn commands_locked<S: Alter + Drop>(
     commands_over(alloc, conn)
 }
 
-/// The ledger in the file of a path, with the commands that it keeps. A file that is not there is made, for its owner
-/// alone. `S` stands for what the file and its log hold now, and for how a crash is read.
+/// The ledger in the file of a path, with the commands that it keeps, and where its files stand. A file that is not
+/// there is made, for its owner alone. `S` stands for what the file and its log hold now, and for how a crash is read.
 ///
-/// Refused: `NoDatabase`, `Damaged`, `Busy`, `NoMemory`, `Open` and `Write` as the database names it, `Form` where it is
-/// none of a ledger's, `Damaged` where a row is that of no command in its turn.
+/// Refused: `NoDatabase`, `Damaged`, `Busy`, `NoMemory`, `Open` and `Write` as the database names it, `Form` where it
+/// is none of a ledger's, `Damaged` where a row is that of no command in its turn; else `Open` where its path leads to
+/// another file meanwhile, and `Busy` where its lock does not hold.
 pub fn open_ledger<S: Start>(
     rt: &HostRuntime,
     alloc: Global,
     path: &str,
     start: S,
-) -> Result<(SqlLedger<FileStore<FileFrom<S>>>, Vec<Command>), LedgerFault>
+) -> Result<(SqlLedger<FileStore<FileFrom<S>>>, Vec<Command>, Site), LedgerFault>
     ensures kept { IfOk result (λ opened. IsTold (file_state opened.0.conn) →
         Keeps (file_state opened.0.conn) opened.0.end opened.1.items) }
     ensures found { IfOk result (λ opened. IsTold (file_state opened.0.conn) →
         WasFoundIn (image_at S.Start) opened.1.items) }
     ensures lasting { IfOk result (λ opened. HasCleanDisk (file_state opened.0.conn) →
         Outlasts (file_state opened.0.conn) opened.1.items) }
+    ensures located { IfOk result (λ opened. opened.2.found ≡ opened.2.opened) }
 {
     make_file(rt, path)?;
+    let before = identity_at(rt, path)?;
     let conn = open_file(rt, path, start)?;
-    ledger_over(alloc, conn)
+    ledger_at(
+        alloc,
+        conn,
+        site_of(rt, alloc, path, before, lock_at(rt, path)),
+    )
 }
 
 /// The ledgers in files, by their paths, read as ones whose torn writes may leave anything.
@@ -218,19 +249,15 @@ impl<'a> Shelf for FileShelf<'a> {
 
     ghost stands = { λ _ _ _. Unit {0} };
 
-    /// A file that is not there is made, for its owner alone. `Open` where its path leads to another file meanwhile, and
-    /// `Busy` where its lock does not hold.
+    /// A file that is not there is made, for its owner alone. `Open` where its path leads to another file meanwhile,
+    /// and `Busy` where its lock does not hold.
     fn open(
         &self,
         alloc: Global,
         name: &str,
     ) -> Result<(FileLedger<'a>, Vec<Command>), LedgerFault> {
-        make_file(self.rt, name)?;
-        let before = identity_at(self.rt, name)?;
-        let (rows, commands) = open_ledger(self.rt, alloc, name, Wary)?;
-        let lock = expect_busy(open_file(self.rt, name, Wary));
-        match site_of(self.rt, alloc, name, before, lock) {
-            Ok(site) => {
+        match open_ledger(self.rt, alloc, name, Wary) {
+            Ok((rows, commands, site)) => {
                 let located = rows.end;
                 let ledger = FileLedger {
                     rt: self.rt,
@@ -248,7 +275,6 @@ impl<'a> Shelf for FileShelf<'a> {
     fn commands(&self, alloc: Global, name: &str) -> Result<Vec<Command>, LedgerFault> {
         find_file(self.rt, alloc, name)?;
         let conn = open_file(self.rt, name, Wary)?;
-        let lock = expect_busy(open_file(self.rt, name, Wary));
-        commands_locked(alloc, conn, lock)
+        commands_locked(alloc, conn, lock_at(self.rt, name))
     }
 }

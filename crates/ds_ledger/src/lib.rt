@@ -12,3 +12,4 @@ pub use file::{FileLedger, FileShelf, open_ledger};
 pub use laws::{crash_is_found_again, crash_leaves_last_commit, rows_tell_commands};
 pub use ledger::{End, SqlLedger};
 pub use reading::ledger_over;
+pub use site::Site;

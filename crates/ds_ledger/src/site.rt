@@ -1,6 +1,7 @@
 //! Where the two files of a ledger stand, and which they are.
 ghost use Rattle.std.specs.Prelude.{◌≡◌, ◌⊎◌, IfErr, IfOk, OnOk};
 
+use crate::fault::fault_of_io;
 use ds_ledger_base::LedgerFault;
 use std::alloc::Global;
 use std::fs::{self, Metadata};
@@ -63,10 +64,7 @@ impl Paths {
     fn new(rt: &HostRuntime, alloc: Global, path: &str) -> Result<Self, LedgerFault> {
         let real = match fs::canonicalize(rt, path) {
             Ok(real) => real,
-            Err(error) if error.kind() == ErrorKind::OutOfMemory => return Err(
-                LedgerFault::NoMemory,
-            ),
-            Err(_) => return Err(LedgerFault::Open),
+            Err(error) => return Err(fault_of_io(error)),
         };
         let (Ok(given), Ok(log)) = (
             PathBuf::from_str(alloc, path),
@@ -104,7 +102,7 @@ impl Paths {
 
 /// Where a ledger's files stand, and which they are.
 #[derive(Drop)]
-pub(crate) struct Site {
+pub struct Site {
     paths: Paths,
     /// Those that stood there when it was opened.
     pub(crate) opened: Identities,
@@ -115,7 +113,8 @@ pub(crate) struct Site {
 impl Site {
     /// Where the files of a path stand that was opened, which led to this file before.
     ///
-    /// Refused: `Open` where it leads to another one now, or where a file is not there; `NoMemory` where memory runs out.
+    /// Refused: `Open` where it leads to another one now, or where a file is not there; `NoMemory` where memory runs
+    /// out.
     pub(crate) fn new(
         rt: &HostRuntime,
         alloc: Global,

@@ -1,6 +1,7 @@
+use crate::files::{Row, run_on_files};
 use ds_broker::{Book, Command, Limits};
 use ds_domain::parse;
-use ds_ledger::FileShelf;
+use ds_domain_base::{BoxedContract, Contract, Domain};
 use ds_ledger_base::{Ledger, LedgerFault, Shelf, replay};
 use ds_ledger_rows::row_of;
 use moment_core::Moment;
@@ -112,31 +113,49 @@ eir = 39
 ebs = 40
 "#;
 
-/// The book of the domain, with all of its contracts, the second of which is released and retired.
-pub(crate) fn sold(rt: &impl Abort, alloc: Global) -> Book {
-    let (domain, contracts) = parse(alloc, DOMAIN.as_bytes()).expect(rt, "a domain");
+/// The domain of the text, and its contracts.
+fn plan(rt: &impl Abort, alloc: Global) -> (Domain, Vec<BoxedContract>) {
+    parse(alloc, DOMAIN.as_bytes()).expect(rt, "a domain")
+}
+
+/// The book of a domain before its first command.
+fn opened_over(rt: &impl Abort, alloc: Global, domain: Domain) -> Book {
     let limits = Limits::new(8, 16).expect(rt, "limits");
-    let Ok(mut book) = Book::new(alloc, domain, limits) else {
-        panic!(rt; "no book");
-    };
-    for contract in contracts {
-        assert!(rt; book.reserve(contract.into_contract()).is_ok());
+    match Book::new(alloc, domain, limits) {
+        Ok(book) => book,
+        Err(_) => panic!(rt; "no book"),
     }
-    let end = Moment::new(30_000_000_000).expect(rt, "a moment");
-    let later = Moment::new(90_000_000_000_000).expect(rt, "a moment");
-    assert!(rt; book.release(2, end).is_ok());
-    assert!(rt; book.retire(2, later).is_ok());
-    book
 }
 
 /// The book of the domain before its first command.
 fn opened(rt: &impl Abort, alloc: Global) -> Book {
-    let (domain, contracts) = parse(alloc, DOMAIN.as_bytes()).expect(rt, "a domain");
+    let (domain, contracts) = plan(rt, alloc);
     drop(contracts);
-    let limits = Limits::new(8, 16).expect(rt, "limits");
-    let Ok(book) = Book::new(alloc, domain, limits) else {
-        panic!(rt; "no book");
-    };
+    opened_over(rt, alloc, domain)
+}
+
+/// Reserves a contract.
+fn reserve(rt: &impl Abort, book: &mut Book, contract: Contract) {
+    let is_reserved = book.reserve(contract).is_ok();
+    assert!(rt; is_reserved);
+}
+
+/// Releases the second contract, and retires it.
+fn give_back(rt: &impl Abort, book: &mut Book) {
+    let end = Moment::new(30_000_000_000).expect(rt, "a moment");
+    let later = Moment::new(90_000_000_000_000).expect(rt, "a moment");
+    assert!(rt; book.release(2, end).is_ok());
+    assert!(rt; book.retire(2, later).is_ok());
+}
+
+/// The book of the domain, with all of its contracts, the second of which is released and retired.
+pub(crate) fn sold(rt: &impl Abort, alloc: Global) -> Book {
+    let (domain, contracts) = plan(rt, alloc);
+    let mut book = opened_over(rt, alloc, domain);
+    for contract in contracts {
+        reserve(rt, &mut book, contract.into_contract());
+    }
+    give_back(rt, &mut book);
     book
 }
 
@@ -192,7 +211,7 @@ const FILES: [&str; 2] = [KEPT, "worked_ledger_kept.db-wal"];
 
 /// Keeps the commands of a book, and expects that they are read again, without the ledger and with it, and that they
 /// make the book.
-fn expect_kept<S: Shelf>(rt: &impl Abort, alloc: Global, shelf: &S) {
+pub(crate) fn expect_kept<S: Shelf>(rt: &impl Abort, alloc: Global, shelf: &S) {
     let book = sold(rt, alloc);
     keep(rt, alloc, shelf, &book);
     let told = shelf.commands(alloc, KEPT).expect(rt, "commands");
@@ -211,35 +230,33 @@ fn expect_kept<S: Shelf>(rt: &impl Abort, alloc: Global, shelf: &S) {
 #[test]
 fn what_a_file_keeps_is_read_again(rt: HostRuntime) {
     clear(&rt, &FILES);
-    expect_kept(&rt, rt.alloc(), &FileShelf::new(&rt));
+    run_on_files(&rt, &rt, Row::Kept);
     clear(&rt, &FILES);
 }
 
 /// Expects that no ledger can be had in the file of a path.
-fn expect_unopened<S: Shelf>(rt: &impl Abort, alloc: Global, shelf: &S, path: &str) {
+pub(crate) fn expect_unopened<S: Shelf>(rt: &impl Abort, alloc: Global, shelf: &S, path: &str) {
     let none = shelf.open(alloc, path);
     assert!(rt; matches!(none, Err(LedgerFault::Open)));
 }
 
 #[test]
 fn a_file_that_cannot_be_opened_is_told(rt: HostRuntime) {
-    let shelf = FileShelf::new(&rt);
     for path in ["worked_ledger_none/sold.db", "."] {
-        expect_unopened(&rt, rt.alloc(), &shelf, path);
+        run_on_files(&rt, &rt, Row::Unopened(path));
     }
 }
 
 /// Expects that no commands can be had of the file of a path.
-fn expect_untold<S: Shelf>(rt: &impl Abort, alloc: Global, shelf: &S, path: &str) {
+pub(crate) fn expect_untold<S: Shelf>(rt: &impl Abort, alloc: Global, shelf: &S, path: &str) {
     let none = shelf.commands(alloc, path);
     assert!(rt; matches!(none, Err(LedgerFault::Open)));
 }
 
 #[test]
 fn a_file_that_is_not_there_is_not_made(rt: HostRuntime) {
-    let shelf = FileShelf::new(&rt);
     for _ in 0..2 {
-        expect_untold(&rt, rt.alloc(), &shelf, "worked_ledger_absent.db");
+        run_on_files(&rt, &rt, Row::Untold("worked_ledger_absent.db"));
     }
     let gone = rt.remove_file("worked_ledger_absent.db");
     assert!(rt; gone.is_err());

@@ -1,7 +1,7 @@
 use crate::file_rows::clear;
-use ds_ledger::FileShelf;
+use crate::files::{Row, run_on_files};
 use ds_ledger_base::{LedgerFault, Shelf};
-use sqlite::{Connection, Error, ErrorCode};
+use sqlite::{Connection, Error, ErrorCode, Wary};
 use std::alloc::{AllocError, Global};
 use std::process::Abort;
 
@@ -78,10 +78,13 @@ fn statements_of(alloc: Global, form: &Form) -> Result<String, AllocError> {
 
 /// Makes a database in the file of a path by statements.
 fn make(rt: &HostRuntime, path: &str, statements: &str) -> Result<(), Error> {
-    let mut conn = Connection::open_with_sums(rt, path)?;
-    let made = conn.execute_batch(statements);
-    let closed = conn.close();
-    made.and(closed)
+    match Connection::open_from(rt, path, true, Wary) {
+        Ok(mut conn) => {
+            let made = conn.execute_batch(statements);
+            made.and(conn.close())
+        }
+        Err((error, _)) => Err(error),
+    }
 }
 
 /// Makes a database of a form in the file of a path.
@@ -93,7 +96,12 @@ fn make_form(rt: &HostRuntime, path: &str, form: &Form) -> Result<(), Error> {
 }
 
 /// Expects that the database of a path is refused for its form, each time that it is opened.
-fn expect_refused<S: Shelf>(rt: &(impl Abort + AllocGlobal), shelf: &S, path: &str, name: &str) {
+pub(crate) fn expect_refused<S: Shelf>(
+    rt: &(impl Abort + AllocGlobal),
+    shelf: &S,
+    path: &str,
+    name: &str,
+) {
     for _ in 0..2 {
         let opened = shelf.open(rt.alloc(), path);
         assert!(rt; matches!(opened, Err(LedgerFault::Form)), "{name}");
@@ -106,7 +114,7 @@ fn expect_refused<S: Shelf>(rt: &(impl Abort + AllocGlobal), shelf: &S, path: &s
 const FORMED: [&str; 2] = ["worked_ledger_formed.db", "worked_ledger_formed.db-wal"];
 
 /// Expects that the database of a path is a ledger, which keeps nothing yet.
-fn expect_empty<S: Shelf>(rt: &(impl Abort + AllocGlobal), shelf: &S, path: &str) {
+pub(crate) fn expect_empty<S: Shelf>(rt: &(impl Abort + AllocGlobal), shelf: &S, path: &str) {
     let (ledger, commands) = shelf.open(rt.alloc(), path).expect(rt, "a ledger");
     assert!(rt; commands.is_empty());
     drop(ledger);
@@ -117,7 +125,7 @@ fn expect_empty<S: Shelf>(rt: &(impl Abort + AllocGlobal), shelf: &S, path: &str
 fn a_database_of_the_form_is_a_ledger(rt: HostRuntime) {
     clear(&rt, &FORMED);
     assert!(rt; make_form(&rt, FORMED[0], &OWN).is_ok());
-    expect_empty(&rt, &FileShelf::new(&rt), FORMED[0]);
+    run_on_files(&rt, &rt, Row::Empty(FORMED[0]));
     clear(&rt, &FORMED);
 }
 
@@ -132,7 +140,7 @@ fn a_database_of_another_form_is_refused(rt: HostRuntime) {
     for form in &OTHERS {
         clear(&rt, &MISFORMED);
         assert!(rt; make_form(&rt, MISFORMED[0], form).is_ok(), "{}", form.name);
-        expect_refused(&rt, &FileShelf::new(&rt), MISFORMED[0], form.name);
+        run_on_files(&rt, &rt, Row::Refused(MISFORMED[0], form.name));
     }
     clear(&rt, &MISFORMED);
 }
@@ -145,7 +153,7 @@ fn a_database_of_something_else_gets_no_table(rt: HostRuntime) {
     clear(&rt, &NOTES);
     let made = make(&rt, NOTES[0], "CREATE TABLE note (title TEXT)");
     assert!(rt; made.is_ok());
-    expect_refused(&rt, &FileShelf::new(&rt), NOTES[0], "notes");
+    run_on_files(&rt, &rt, Row::Refused(NOTES[0], "notes"));
     let added = make(&rt, NOTES[0], "INSERT INTO form VALUES (2)");
     assert!(rt; added.is_err());
     let kept = make(&rt, NOTES[0], "INSERT INTO note VALUES ('kept')");

@@ -1,5 +1,5 @@
 use crate::file_rows::{clear, sold};
-use ds_ledger::FileShelf;
+use crate::files::{Row, run_on_files};
 use ds_ledger_base::{Ledger, LedgerFault, Shelf};
 use std::alloc::Global;
 use std::os::unix::fs::symlink;
@@ -9,7 +9,7 @@ use std::{fs, io};
 
 /// What is done to the files of a ledger while it is kept.
 #[derive(Clone, Copy)]
-enum Step {
+pub enum Step {
     /// A file goes to another path.
     Move(&'static str, &'static str),
     /// A copy of a file is made.
@@ -60,7 +60,7 @@ fn expect_steps(rt: &(impl Abort + Files), ledger: &mut impl Ledger, steps: &[(S
 }
 
 /// Keeps the commands of a book in the file of a path, and takes steps while it does.
-fn keep_and_take<S: Shelf>(
+pub(crate) fn keep_and_take<S: Shelf>(
     rt: &(impl Abort + Files),
     alloc: Global,
     shelf: &S,
@@ -108,7 +108,7 @@ static STEPS: [(Step, bool); 16] = [
 #[test]
 fn a_file_is_found_while_its_path_leads_to_it(rt: HostRuntime) {
     clear(&rt, &[PLACED, LOG, AWAY]);
-    keep_and_take(&rt, rt.alloc(), &FileShelf::new(&rt), PLACED, &STEPS);
+    run_on_files(&rt, &rt, Row::Placed(PLACED, &STEPS));
     clear(&rt, &[PLACED, LOG, AWAY]);
 }
 
@@ -143,6 +143,6 @@ fn a_link_is_followed_to_the_same_file(rt: HostRuntime) {
     clear(&rt, &paths);
     assert!(rt; take(&rt, Step::Empty(LED)).is_ok());
     assert!(rt; take(&rt, Step::Link(LED, LINK)).is_ok());
-    keep_and_take(&rt, rt.alloc(), &FileShelf::new(&rt), LINK, &LINK_STEPS);
+    run_on_files(&rt, &rt, Row::Placed(LINK, &LINK_STEPS));
     clear(&rt, &paths);
 }

@@ -1,6 +1,6 @@
-use crate::rows::life::{Left, Story, judged, left_behind};
-use crate::rows::packets::Packet;
-use crate::rows::stays::Shares;
+use crate::life_rows::life::{Left, Story, judged, left_behind};
+use crate::life_rows::packets::Packet;
+use crate::life_rows::stays::Shares;
 use moment_core::Colour;
 use run_audit::Verdict;
 use std::alloc::Global;

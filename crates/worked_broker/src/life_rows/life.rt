@@ -2,8 +2,8 @@
 ghost use Rattle.std.specs.Prelude.{◌≡◌, []};
 ghost use Rattle.meter_fabric.specs.Fabrics.{fabric_of, parts_of};
 
-use crate::rows::packets::Packet;
-use crate::rows::stays::{Passes, Shares, packets_pass, released, retired, settled};
+use crate::life_rows::packets::Packet;
+use crate::life_rows::stays::{Passes, Shares, packets_pass, released, retired, settled};
 use ds_broker::Limits;
 use ds_desk::{Broker, Desk, Feed, Naming, Opened};
 use ds_domain::parse;

@@ -1,5 +1,5 @@
 //! The stay of a contract: it is granted, its packets pass the meters, it is released and retired.
-use crate::rows::packets::{OnWay, Packet, Taken, all_begun, take_all};
+use crate::life_rows::packets::{OnWay, Packet, Taken, all_begun, take_all};
 use ds_desk::{Broker, Feed, Naming};
 use ds_domain_base::Contract;
 use meter_fabric::{Fabric, FabricLedger, Numbered, Pass, Trail, Ways, edge_opening};
