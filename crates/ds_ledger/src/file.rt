@@ -110,8 +110,8 @@ fn lock_at(rt: &HostRuntime, path: &str) -> Result<(), LedgerFault> {
     expect_busy(sqlite_std_file::open(rt, path, Wary))
 }
 
-/// A ledger in a file, read as one whose torn writes may leave anything. Where it goes, its log is copied into the file;
-/// a failure to do so is passed over, since the log keeps what it kept.
+/// A ledger in a file, read as one whose torn writes may leave anything. Where it goes, its log is copied into the
+/// file; a failure to do so is passed over, since the log keeps what it kept.
 ///
 /// Its next open finds it where its path leads to the same two files as when it was opened.
 pub struct FileLedger<'a> {

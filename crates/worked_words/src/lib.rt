@@ -1,7 +1,7 @@
-//! Worked rows of the libraries below, in their public calls: what lines of words ask for, and what files give; faults,
-//! refusals and refused offers, as lines, as objects of JSON as examples/json has them, and as a person reads them, with
-//! where keys stand in a text; domain texts that are written; and what other devices make of meters. They stand here, and
-//! not beside those calls, since a crate with tests is proved twice.
+//! Worked rows of the libraries below, in their public calls: what lines of words ask for, and what files give;
+//! faults, refusals and refused offers, as lines, as objects of JSON as examples/json has them, and as a person reads
+//! them, with where keys stand in a text; domain texts that are written; and what other devices make of meters. They
+//! stand here, and not beside those calls, since a crate with tests is proved twice.
 #![tactic(auto)]
 
 #[cfg(test)]
