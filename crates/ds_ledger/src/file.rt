@@ -7,7 +7,7 @@ ghost use Rattle.sqlite.specs.WalFiles.{image_at};
 ghost use Rattle.sqlite.specs.declared.error.Error.{Error};
 ghost use Rattle.ds_ledger.specs.Faults.{fault_of_open, lock_of};
 ghost use Rattle.ds_ledger.specs.Kept.{IsTold, Keeps, Outlasts, WasFoundIn};
-ghost use Rattle.ds_ledger.specs.Opened.{IsLedgerOver, IsReadOver, IsUnreadOver};
+ghost use Rattle.ds_ledger.specs.Opened.{IsLedgerOver, IsReadOver, IsUnopened, IsUnreadOver};
 
 use crate::fault::{fault_of_files, fault_of_io, fault_of_open};
 use crate::ledger::{End, SqlLedger};
@@ -177,8 +177,12 @@ fn ledger_at<S: Alter + Drop>(
 ) -> Result<(SqlLedger<S>, Vec<Command>, Site), LedgerFault>
     ensures over { IfOk result (λ opened. IsLedgerOver S.Store conn opened.0.conn opened.0.end opened.1.items) }
     ensures site { IfOk result (λ opened. site ≡ Ok opened.2) }
+    ensures refused { IfErr result (λ fault. IsUnopened S.Store conn fault ⊎ (site ≡ Err fault)) }
 {
-    let (rows, commands) = ledger_over(alloc, conn)?;
+    let (rows, commands) = match ledger_over(alloc, conn) {
+        Ok(opened) => opened,
+        Err(fault) => return Err(fault),
+    };
     match site {
         Ok(site) => Ok((rows, commands, site)),
         Err(fault) => Err(fault),
