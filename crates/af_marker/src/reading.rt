@@ -1,4 +1,4 @@
-ghost use Rattle.std.specs.Prelude.{◌≡◌, ◌≤◌, None, length, IfOk};
+ghost use Rattle.std.specs.Prelude.{◌≡◌, ◌≤◌, length, IfOk};
 ghost use Rattle.af_marker.specs.Headers.{fault_of, fields_of, header_length, header_of, ports_of, total_length};
 
 use crate::checksum::ones_complement_sum;
@@ -9,6 +9,7 @@ use byteorder::{BigEndian, ByteOrder};
 use moment_core::PacketSize;
 
 /// The first test that the header fails, if any (RFC 791 section 3.1).
+#[inline(always)]
 #[tactic(auto, unfolding(crate::specs::Headers::fault_of))]
 fn fault_of_header(bytes: &[u8]) -> Option<HeaderFault>
     ensures { result ≡ fault_of bytes.now }
@@ -34,6 +35,7 @@ fn fault_of_header(bytes: &[u8]) -> Option<HeaderFault>
 
 /// The ports in the first four bytes after a header, where the packet has them (RFC 768; RFC 9293
 /// section 3.1).
+#[inline(always)]
 #[tactic(auto, unfolding(crate::specs::Headers::ports_of))]
 fn ports_of_packet(bytes: &[u8], ports_at: usize, total: u16) -> Option<(u16, u16)>
     requires fixed { 20 ≤ length bytes.now }
@@ -53,9 +55,12 @@ fn ports_of_packet(bytes: &[u8], ports_at: usize, total: u16) -> Option<(u16, u1
 }
 
 /// What a header says that passes all tests (RFC 791 section 3.1).
-#[tactic(auto, unfolding(crate::specs::Headers::fault_of, crate::specs::Headers::fields_of))]
+#[inline(always)]
+#[tactic(auto, unfolding(crate::specs::Headers::fields_of))]
 fn fields_of_header(bytes: &[u8]) -> Ipv4Header
-    requires { fault_of bytes.now ≡ None }
+    requires least { 20 ≤ header_length bytes.now }
+    requires whole { header_length bytes.now ≤ length bytes.now }
+    requires sized { header_length bytes.now ≤ total_length bytes.now }
     ensures { result ≡ fields_of bytes.now }
 {
     let length = 4 * usize::from(bytes[field::VERSION_AND_LENGTH] % 16);
@@ -78,6 +83,7 @@ fn fields_of_header(bytes: &[u8]) -> Ipv4Header
 /// Refused, in this order: `ShortHeader` where there is no byte, `NotIpv4` where the version is not 4, `ShortHeader`
 /// below 20 bytes, `BadLength` where the header's length is below that, `ShortHeader` where the header is not there
 /// whole, and `BadLength` where the packet's length is below its header's.
+#[inline(always)]
 #[tactic(auto, unfolding(crate::specs::Headers::header_of, crate::specs::Headers::fields_of, crate::specs::Headers::fault_of))]
 pub fn header(bytes: &[u8]) -> Result<Ipv4Header, HeaderFault>
     ensures value { result ≡ header_of bytes.now }

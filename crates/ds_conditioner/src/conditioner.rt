@@ -81,6 +81,7 @@ impl<'a> Conditioner<'a> {
     /// since stamps may fall and time does not.
     ///
     /// `AllocError` where memory runs out; the frame is then not seen.
+    #[inline(always)]
     fn see(&mut self, port: &Port<'_>) -> Result<(), AllocError>
         requires bounded { IsBounded self.old }
         requires few { self.old.counts.records < 2 ^ 44 }
@@ -122,6 +123,7 @@ impl<'a> Conditioner<'a> {
     }
 
     /// Sends the packet of a frame, if there is one; `AllocError` where memory runs out, and all is then as it was.
+    #[inline(always)]
     fn send(&mut self, packet: &Option<Sent>) -> Result<(), AllocError>
         requires { next_place self.old.under_way < 2 ^ 64 - 1 }
         ensures rest { self.new ≡ record self.old { under_way = self.new.under_way } }
@@ -380,6 +382,7 @@ impl<'a> Conditioner<'a> {
 }
 
 /// Notes the packet of a frame, if there is one.
+#[inline(always)]
 fn note(judge: &mut Judge<'_>, packet: &Option<Sent>)
     ensures { (back : List Sent)
         → verdict_with judge.new back ≡ verdict_with judge.old (option_to_list packet.now ++ back) }

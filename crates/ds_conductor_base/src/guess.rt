@@ -123,8 +123,10 @@ impl OrderGuess {
         }
         let bits = u64::BITS - widest(&self.keys).leading_zeros();
         let low = bits.saturating_sub(2 * DIGIT_BITS);
-        sort_all(&self.keys, low, &mut self.spare);
-        sort_by_digit(&self.keys, low + DIGIT_BITS, &self.spare, &mut self.order);
+        let (mut lower, mut upper) = places_of(&self.keys, low);
+        sort_all(&self.keys, low, &mut lower, &mut self.spare);
+        let shift = low + DIGIT_BITS;
+        sort_by_digit(&self.keys, shift, &mut upper, &self.spare, &mut self.order);
         mend(&self.keys, &mut self.order);
     }
 
@@ -134,13 +136,12 @@ impl OrderGuess {
         if self.order.len() == visits.len() {
             return;
         }
-        self.keys.clear();
+        if self.keys.resize(visits.len(), 0).is_err() {
+            return;
+        }
         let first = first_moment(visits);
-        for Reverse(visit) in visits {
-            let after = visit.moment.get().saturating_sub(first);
-            if self.keys.push(after).is_err() {
-                return;
-            }
+        for (key, Reverse(visit)) in self.keys.iter_mut().zip(visits) {
+            *key = visit.moment.get().saturating_sub(first);
         }
         self.settle();
     }
@@ -193,22 +194,37 @@ fn put_each(
     out.len() == visits.len()
 }
 
-/// Where the numbers of each digit of keys begin once they are in order by that digit, the greatest first.
-fn places_of(keys: &[u64], shift: u32) -> [u32; 256]
-    requires { shift < 64 }
+/// Where the numbers of each digit of keys begin once they are in order by that digit, the greatest first: by the digit
+/// above so many bits, and by the next one.
+fn places_of(keys: &[u64], low: u32) -> ([u32; 256], [u32; 256])
+    requires { low < 56 }
 {
-    let mut places = [0u32; 256];
+    let mut lower = [0u32; 256];
+    let mut upper = [0u32; 256];
     for key in keys {
-        let place = &mut places[digit_of(*key, shift)];
-        *place = place.wrapping_add(1);
+        count(&mut lower, digit_of(*key, low));
+        count(&mut upper, digit_of(*key, low + DIGIT_BITS));
     }
+    add_up(&mut lower);
+    add_up(&mut upper);
+    (lower, upper)
+}
+
+/// One number more has a digit.
+fn count(counts: &mut [u32; 256], digit: usize)
+    requires { digit < 256 }
+{
+    counts[digit] = counts[digit].wrapping_add(1);
+}
+
+/// Where the numbers of each digit begin that has so many.
+fn add_up(counts: &mut [u32; 256]) {
     let mut next = 0u32;
-    for place in &mut places {
+    for place in counts {
         let count = *place;
         *place = next;
         next = next.wrapping_add(count);
     }
-    places
 }
 
 /// Puts a number at the next place of its digit.
@@ -223,49 +239,60 @@ fn put_number(to: &mut [u16], places: &mut [u32; 256], digit: usize, number: u16
 }
 
 /// Puts the numbers of all keys in order by one digit of these, the greatest first, and of each digit the last number
-/// first.
-fn sort_all(keys: &[u64], shift: u32, to: &mut [u16])
+/// first. `places` tells where those of each digit begin.
+fn sort_all(keys: &[u64], shift: u32, places: &mut [u32; 256], to: &mut [u16])
     requires shift { shift < 64 }
     requires most { length keys.now ≤ 65536 }
 {
-    let mut places = places_of(keys, shift);
     for done in 0..keys.len() {
         let number = keys.len() - 1 - done;
         let digit = digit_of(keys[number], shift);
-        put_number(to, &mut places, digit, number as u16);
+        put_number(to, places, digit, number as u16);
     }
 }
 
 /// Puts numbers into another order: by one digit of their keys, the greatest first, and as they stood where it is the
-/// same.
-fn sort_by_digit(keys: &[u64], shift: u32, from: &[u16], to: &mut [u16])
+/// same. `places` tells where those of each digit begin.
+fn sort_by_digit(keys: &[u64], shift: u32, places: &mut [u32; 256], from: &[u16], to: &mut [u16])
     requires { shift < 64 }
 {
-    let mut places = places_of(keys, shift);
     for number in from {
         let Some(key) = keys.get(usize::from(*number)) else {
             return;
         };
-        put_number(to, &mut places, digit_of(*key, shift), *number);
+        put_number(to, places, digit_of(*key, shift), *number);
     }
 }
 
 /// Puts numbers that stand in order but for the low bits of their keys wholly in order, the greatest first, as far as none
 /// goes many places.
 fn mend(keys: &[u64], order: &mut [u16]) {
-    for place in 1..order.len() {
-        let number = order[place];
-        let key = key_at(keys, number);
-        let mut free = place;
-        for _ in 0..FEW {
-            if free == 0 || key <= key_at(keys, order[free - 1]) {
-                break;
-            }
-            order[free] = order[free - 1];
-            free -= 1;
+    let mut least = u64::MAX;
+    for place in 0..order.len() {
+        let key = key_at(keys, order[place]);
+        if key > least {
+            // What stands at the place then is the one before.
+            move_up(keys, order, place, key);
+        } else {
+            least = key;
         }
-        order[free] = number;
     }
+}
+
+/// Puts the number at a place, of which this is the key, before those of less, a few places at most.
+fn move_up(keys: &[u64], order: &mut [u16], place: usize, key: u64)
+    requires { place < length order.old }
+{
+    let number = order[place];
+    let mut free = place;
+    for _ in 0..FEW {
+        if free == 0 || key <= key_at(keys, order[free - 1]) {
+            break;
+        }
+        order[free] = order[free - 1];
+        free -= 1;
+    }
+    order[free] = number;
 }
 
 /// The key of a number; 0 where there is none.

@@ -81,6 +81,7 @@ impl VisitQueue {
     /// Puts the visits of the packet of a place to its stops among the others.
     ///
     /// `AllocError` where memory runs out; all is then as it was.
+    #[inline(always)]
     pub fn add(&mut self, place: usize, packet: &Sent, stops: &[Stop]) -> Result<(), AllocError>
         requires { IsDistinct is_same (self.old ++ map (visit_to place packet.now) stops.now) }
         ensures added { OnOk result
@@ -128,6 +129,7 @@ impl VisitQueue {
 }
 
 /// Puts the visits of the packet of a place to its stops behind others, where there is room for them.
+#[inline(always)]
 fn push_visits(
     fresh: &mut Vec<Reverse<Waiting>>,
     trains: &Trains,

@@ -66,6 +66,7 @@ impl<'a> UnderWay<'a> {
     /// Sends a packet behind the others: all its visits wait from then on.
     ///
     /// `AllocError` where memory runs out; all is then as it was.
+    #[inline(always)]
     pub fn send(&mut self, packet: Sent) -> Result<(), AllocError>
         requires { next_place self.old < 2 ^ 64 - 1 }
         ensures sent { OnOk result (self.new ≡ with_sent self.old packet) }
@@ -142,6 +143,7 @@ impl<'a> UnderWay<'a> {
 }
 
 /// The colour that a packet comes in with: red where there is no contract of its number.
+#[inline(always)]
 fn came(accepted: &Accepted, packet: Sent) -> Colour
     ensures { result ≡ came_of accepted.now packet }
 {

@@ -33,5 +33,5 @@ pub fn crash_is_found_again<D: Disk + Drop>(ledger: SqlLedger<FileStore<D>>) -> 
     ensures { IsClean (store.view result) → (left : Image) → (store.state result).may_leave left →
         (found : List Command) → WasFoundIn left found → ∥ MayLeave (file_state ledger.conn) found ∥₁ }
 {
-    ledger.into_connection().into_store()
+    ledger.into_store()
 }

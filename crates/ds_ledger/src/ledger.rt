@@ -1,6 +1,7 @@
 ghost use Rattle.std.specs.Prelude.{◌≡◌, ◌<◌, ◌++◌, All, [], ◌∷◌, IfOk, IfSome, IsTrue, OnErr, OnOk, length};
-ghost use Rattle.sqlite.specs.Held.{state};
+ghost use Rattle.sqlite.specs.Held.{AreDatabases, state};
 ghost use Rattle.sqlite.specs.State.{HasCleanDisk, Survives};
+ghost use Rattle.sqlite_trees.specs.View.{IsClean, IsQuiet};
 ghost use Rattle.ds_ledger_base.specs.Lasting.{KeepsMore, KeepsSame};
 ghost use Rattle.ds_ledger_rows.specs.Cells.{id_of};
 ghost use Rattle.ds_ledger_rows.specs.Sound.{IsSound};
@@ -125,6 +126,16 @@ impl<S: Alter + Drop> SqlLedger<S> {
             end: _,
         } = self;
         conn
+    }
+
+    /// What its database is kept in, with what is not committed rolled back.
+    pub(crate) fn into_store(self) -> S
+        ensures numbered { IsClean (S.Store.view result) → IsTrue (S.Store.view result).is_numbered }
+        ensures sound { IsClean (S.Store.view result) → AreDatabases (S.Store.recovers result) }
+        ensures quiet { IsQuiet S.Store.view S.Store.faults S.Store.recovers S.Store.is_shielded
+            self.conn.store result }
+    {
+        self.into_connection().into_store()
     }
 
     /// Keeps commands behind all others, by one commit.

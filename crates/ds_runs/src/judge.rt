@@ -65,6 +65,7 @@ impl<'a> Judge<'a> {
     }
 
     /// Notes a packet that is sent. Packets are to be noted in the order in which they are sent.
+    #[inline(always)]
     pub fn note(&mut self, packet: &Sent)
         ensures noted { self.new ≡ noted self.old packet.now }
         ensures comes { (back : List Sent)
@@ -106,6 +107,7 @@ fn no_moments(alloc: Global, count: u64) -> Result<Vec<Option<Moment>>, AllocErr
 }
 
 /// The number of the first packet outside its contract's time, once one packet more is sent.
+#[inline(always)]
 fn first_outside(before: Option<u64>, contract: &Contract, packet: &Sent) -> Option<u64>
     ensures { result ≡ first_of before (outside_by packet.now contract.now) }
 {
@@ -117,6 +119,7 @@ fn first_outside(before: Option<u64>, contract: &Contract, packet: &Sent) -> Opt
 }
 
 /// Notes a packet of a contract, and answers whether it is the contract's first.
+#[inline(always)]
 fn note_sender(senders: &mut Vec<Sender>, contract: &Contract, packet: &Sent) -> bool
     ensures senders { senders.new.items ≡ spoken_by senders.old.items packet.now (Some contract.now) }
     ensures first { result ≡ is_first (slice_get senders.old.items packet.now.flow) }

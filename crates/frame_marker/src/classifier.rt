@@ -88,6 +88,7 @@ impl PortClassifier {
     }
 
     /// What a frame is at the port, and what marking it later needs: so its header is read once.
+    #[inline(always)]
     #[tactic(auto, unfolding(crate::specs::Ports::sight_at, crate::specs::Frames::header_in, crate::specs::Marks::mark_in))]
     pub fn see(&self, link: LinkType, bytes: &[u8]) -> Seen
         ensures sight { result.sight ≡ sight_at self.now link bytes.now }
@@ -156,6 +157,7 @@ impl PortClassifier {
     }
 
     /// What a frame of a piece is at the port, and what marking it later needs.
+    #[inline(always)]
     pub fn see_frame(&self, frame: &Frame<'_>) -> Seen
         ensures sight { result.sight ≡ sight_in self.now frame.now }
         ensures mark { result.mark ≡ mark_in (link_in frame.now.content) frame.now.bytes }

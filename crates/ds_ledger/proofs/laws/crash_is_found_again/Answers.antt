@@ -10,4 +10,4 @@ returns g c clean left may found was =
     let now = file_state c.args.ledger.conn in
     let again = next_run last (kept.ensures.numbered clean) (kept.ensures.sound clean) left may (record now { committed = was.db })
     (record { holds = was.finds.holds; reads = was.finds.reads }) in
-    ∥∥₁_map again (λ recovers. (was.db.trees, rw (c.into_connection.ensures) at (kept.ensures.quiet.outcomes was.db.trees recovers), was.are))
+    ∥∥₁_map again (λ recovers. (was.db.trees, kept.ensures.quiet.outcomes was.db.trees recovers, was.are))

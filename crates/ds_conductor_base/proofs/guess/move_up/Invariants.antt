@@ -1,5 +1,5 @@
 use Rattle.std.proofs.Common.{◌≤◌}
-use Rattle.ds_conductor_base.proofs.guess.mend.Given as goal
+use Rattle.ds_conductor_base.proofs.guess.move_up.Given as goal
 
 -- a number goes towards the front alone
 abbrev pub invariant-loop : goal.invariant-loop
