@@ -1,4 +1,4 @@
-ghost use Rattle.std.specs.Prelude.{◌≡◌, ◌≤◌, length, IfOk};
+ghost use Rattle.std.specs.Prelude.{◌≡◌, ◌≤◌, None, length, IfOk};
 ghost use Rattle.af_marker.specs.Headers.{fault_of, fields_of, header_length, header_of, ports_of, total_length};
 
 use crate::checksum::ones_complement_sum;
@@ -56,11 +56,9 @@ fn ports_of_packet(bytes: &[u8], ports_at: usize, total: u16) -> Option<(u16, u1
 
 /// What a header says that passes all tests (RFC 791 section 3.1).
 #[inline(always)]
-#[tactic(auto, unfolding(crate::specs::Headers::fields_of))]
+#[tactic(auto, unfolding(crate::specs::Headers::fault_of, crate::specs::Headers::fields_of))]
 fn fields_of_header(bytes: &[u8]) -> Ipv4Header
-    requires least { 20 ≤ header_length bytes.now }
-    requires whole { header_length bytes.now ≤ length bytes.now }
-    requires sized { header_length bytes.now ≤ total_length bytes.now }
+    requires { fault_of bytes.now ≡ None }
     ensures { result ≡ fields_of bytes.now }
 {
     let length = 4 * usize::from(bytes[field::VERSION_AND_LENGTH] % 16);

@@ -36,6 +36,7 @@ impl Buckets {
     }
 
     /// Pours a packet into the buckets of the columns that count its colour.
+    #[inline(always)]
     fn note(&mut self, colour: Colour, packet: &Sent)
         ensures { self.new ≡ watched_each colour self.old packet.now }
     {
@@ -82,6 +83,7 @@ impl Buckets {
 }
 
 /// Pours a packet into the bucket of a column, if that counts its colour.
+#[inline(always)]
 fn note_in(column: Column, watch: &mut Watch, colour: Colour, packet: &Sent)
     ensures { watch.new ≡ watched_in column colour watch.old packet.now }
 {
@@ -101,6 +103,7 @@ pub(crate) struct Sender {
 
 impl Sender {
     /// A packet of the contract more.
+    #[inline(always)]
     pub(crate) fn note(&mut self, contract: &Contract, packet: &Sent)
         ensures { self.new ≡ spoken contract.now packet.now self.old }
     {
