@@ -81,7 +81,6 @@ impl<'a> Conditioner<'a> {
     /// since stamps may fall and time does not.
     ///
     /// `AllocError` where memory runs out; the frame is then not seen.
-    #[inline(always)]
     fn see(&mut self, port: &Port<'_>) -> Result<(), AllocError>
         requires bounded { IsBounded self.old }
         requires few { self.old.counts.records < 2 ^ 44 }

@@ -67,7 +67,6 @@ impl<'a> Port<'a> {
     }
 
     /// What a frame is at the port, and what marking it needs.
-    #[inline(always)]
     pub fn see(&self, frame: &Frame<'_>) -> Seen
         ensures { IsSeenOf self.now frame.now result }
     {

@@ -27,7 +27,6 @@ pub(crate) fn is_dropped(red: RedRule, colour: Colour) -> bool
 }
 
 /// Marks a frame in a text, where so many bytes from a place on are its own.
-#[inline(always)]
 fn mark_between(text: &mut Vec<u8>, start: usize, size: usize, frame: &SeenFrame<'_>, dscp: Dscp)
     requires within { start + size ≤ length text.old.items }
     requires bytes { slice_range text.old.items start (start + size) ≡ frame.now.frame.bytes }
@@ -39,7 +38,6 @@ fn mark_between(text: &mut Vec<u8>, start: usize, size: usize, frame: &SeenFrame
 }
 
 /// Adds the record of a frame to a text, marked there with a code point.
-#[inline(always)]
 pub(crate) fn add_with(
     out: &mut Vec<u8>,
     frame: &SeenFrame<'_>,
@@ -56,7 +54,6 @@ pub(crate) fn add_with(
 }
 
 /// Adds the record of a frame to a text, marked there with a code point where its packet has a header that can be read.
-#[inline(always)]
 fn add_seen(out: &mut Vec<u8>, frame: &SeenFrame<'_>, dscp: Dscp) -> Result<(), AllocError>
     ensures { OnOk result (IsSeen frame.now
         → out.new.items ≡ out.old.items ++ text_with frame.now.frame dscp frame.now.mark) }
@@ -68,7 +65,6 @@ fn add_seen(out: &mut Vec<u8>, frame: &SeenFrame<'_>, dscp: Dscp) -> Result<(), 
 }
 
 /// Adds the record of a frame to a text, marked there with the code point of a colour in the class of a contract.
-#[inline(always)]
 fn add_marked(
     out: &mut Vec<u8>,
     port: &Port<'_>,
